@@ -1,0 +1,41 @@
+/// Pages of a board, at most; each board has one at least.
+pub const PAGE_LIMIT: u32 = 1024;
+
+/// Harts of a board, at most; each board has one at least.
+pub const HART_LIMIT: u8 = 8;
+
+/// Interrupt files of a hart, at most; they are numbered from 1.
+pub const FILE_LIMIT: u8 = 7;
+
+/// TVMs that a monitor creates in its life, at most; they are numbered from 1.
+pub const TVM_LIMIT: u32 = 16;
+
+/// vCPUs of a TVM, at most; they are numbered from 0.
+pub const VCPU_LIMIT: u64 = 4;
+
+/// Regions of a TVM, at most.
+pub const REGION_LIMIT: usize = 8;
+
+/// Maximal rows of shared guest pages of a TVM, at most.
+pub const SHARED_RUN_LIMIT: usize = 16;
+
+/// Pages that one call names, at most; it names one at least.
+pub const RANGE_LIMIT: u64 = 16;
+
+/// Instructions of one run, at most; a run has one at least.
+pub const FUEL_LIMIT: u64 = 4096;
+
+/// Entries of a history, at most.
+pub const ENTRY_LIMIT: u32 = 100_000;
+
+/// Bytes of a script's text, at most.
+pub const SCRIPT_LIMIT: usize = 1_048_576;
+
+/// Bytes of a board's key, at most; a key has one at least.
+pub const KEY_LIMIT: usize = 128;
+
+/// Bytes of a quote, at most.
+pub const QUOTE_LIMIT: usize = 512;
+
+/// Every phase of a script's line is below this number.
+pub const PHASE_LIMIT: u32 = 1_048_576;
