@@ -4,6 +4,7 @@
 
 mod calls;
 mod events;
+mod faults;
 mod limits;
 mod lists;
 mod numbers;
@@ -16,6 +17,7 @@ mod tests;
 
 pub use calls::{GuestAct, HostCall};
 pub use events::{Entry, Event, Exit, History, How, Walked};
+pub use faults::{Kind, ScriptFault};
 pub use limits::{
     ENTRY_LIMIT, FILE_LIMIT, FUEL_LIMIT, HART_LIMIT, KEY_LIMIT, PAGE_LIMIT, PHASE_LIMIT,
     QUOTE_LIMIT, RANGE_LIMIT, REGION_LIMIT, SCRIPT_LIMIT, SHARED_RUN_LIMIT, TVM_LIMIT, VCPU_LIMIT,
