@@ -95,7 +95,7 @@ is_call_word word = list_any (λ call. bytes_eq word (word_of call)) (calls_with
 -- the call of a word and its arguments: none where the word is no call's or has another number of arguments
 abbrev pub call_of : (word args : List ℕ) → Option HostCall
 call_of word args =
-    find (λ call. bytes_eq word (word_of call) && length args == length (arguments call)) (calls_with args)
+    find (λ call. length args == length (arguments call) && bytes_eq word (word_of call)) (calls_with args)
 
 -- a call as a line shows it: its word and its arguments, each after one space
 abbrev pub call_text : HostCall → List ℕ
