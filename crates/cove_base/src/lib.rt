@@ -12,6 +12,8 @@ mod quotes;
 mod ranges;
 mod scripts;
 mod statuses;
+#[cfg(test)]
+mod tests;
 
 pub use calls::{GuestAct, HostCall};
 pub use events::{Entry, Event, Exit, History, How, Walked};
