@@ -1,4 +1,5 @@
 pub mod CallWords
+pub mod HartLines
 pub mod Numbers
 pub mod Ranges
 pub mod Scripts
