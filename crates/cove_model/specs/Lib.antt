@@ -9,3 +9,4 @@ pub mod Follows
 pub mod Played
 pub mod Reports
 pub mod Commands
+pub mod Grammar
