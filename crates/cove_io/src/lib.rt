@@ -6,5 +6,14 @@
 //! [`ReadSource`] and [`WriteSink`] are trusted to name what really happened there.
 
 mod ends;
+mod memory;
+mod outside;
+mod whole;
 
 pub use ends::{Failed, Sink, Source};
+pub use memory::{MemSink, MemSource, NullSink, SureSource};
+pub use outside::{ReadSource, WriteSink};
+pub use whole::{ReadError, read_all, write_all};
+
+#[cfg(test)]
+mod tests;
