@@ -63,10 +63,10 @@ impl<W: Write> WriteSink<W> {
             (Rose (⟦<WriteSink<W> as Sink>⟧.count self.old) (⟦<WriteSink<W> as Sink>⟧.count self.new)) }
         ensures taken { Keeps (⟦<WriteSink<W> as Sink>⟧.taken self.old) (⟦<WriteSink<W> as Sink>⟧.taken self.new) }
     {
-        match self.writer.flush() {
-            Ok(()) => Ok(()),
-            Err(_) => Err(self.fault()),
+        if self.writer.flush().is_err() {
+            return Err(self.fault());
         }
+        Ok(())
     }
 
     // Counts a fault.
