@@ -1,1 +1,4 @@
 mod GrammarRows
+pub mod AtTheEnd
+pub mod OneHart
+pub mod WithinLimits

@@ -1,5 +1,6 @@
 -- The history that a script plays by turns.
 use Rattle.std.specs.Prelude.{ℕ, zero, suc, ◌+◌, ◌*◌, nat_lt, if◌then◌else◌, List, [], ◌∷◌, ◌++◌, length, fold}
+use Rattle.std.specs.List.{AllByRecursion}
 use Rattle.cove_base.specs.Scripts.{ScriptValue}
 use Rattle.cove_base.specs.declared.calls.HostCall.{HostCall}
 use Rattle.cove_base.specs.declared.events.Entry.{Entry}
@@ -52,13 +53,18 @@ enough limit script = 2 * limit + script.harts + 1
 unfoldable pub played : (limit : ℕ) → ScriptValue → List Entry
 played limit script = rounds limit script (enough limit script) (fold (turn limit script) [] script.turns)
 
--- the entries of a script's calls that are answered one after another, from a state on
+-- the entries of lines that are answered one after another, from a state on
 abbrev pub alone : State → List ScriptLine → List Entry
 alone S [] = []
 alone S (line ∷ rest) =
-    elim line.line [
-      | lines.Call call ↦
-          call_entry S line.hart.0 call ∷ alone (after_entry S (call_entry S line.hart.0 call)) rest
-      | lines.Load addr ↦ []
-      | lines.Store addr value ↦ []
-    ]
+    entry_of S line.hart.0 line.line ++ alone (fold after_entry S (entry_of S line.hart.0 line.line)) rest
+
+-- the line is a call
+abbrev pub IsCall : Line → Type 0
+IsCall (lines.Call call) = Unit {0}
+IsCall (lines.Load addr) = ⊥
+IsCall (lines.Store addr value) = ⊥
+
+-- every line of a script is a call
+abbrev pub AreCalls : ScriptValue → Type 0
+AreCalls script = AllByRecursion (λ line. IsCall line.line) script.lines
