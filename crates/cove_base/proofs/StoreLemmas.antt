@@ -1,7 +1,7 @@
-use Rattle.std.proofs.Common.{◌≡◌, ◌≢◌, ℕ, zero, suc, ◌+◌, ◌<◌, ◌≤◌, inl, inr, List, [], ◌∷◌, ◌++◌, length, set, refl, ◌∙◌, arith, length-set, get_or-set_other}
+use Rattle.std.proofs.Common.{◌≡◌, ◌≢◌, ℕ, zero, suc, ◌+◌, ◌-◌, ap, ◌<◌, ◌≤◌, inl, inr, List, [], ◌∷◌, ◌++◌, length, set, refl, ◌∙◌, arith, length-set, get_or-set_other}
 use Rattle.std.proofs.lemmas.Bool.{cases_lt}
 use Rattle.std.proofs.lemmas.Grind.{get_or-set_at}
-use Rattle.cove_base.specs.Stores.{stored, AllAllowed, StoresKeepLength, StoresKeepOthers, StoresAppend, FillsWrite, FillsKeepOthers}
+use Rattle.cove_base.specs.Stores.{stored, AllAllowed, fills, StoresKeepLength, StoresKeepOthers, StoresAppend, FillsWrite, FillsKeepOthers}
 
 pub length-stored : StoresKeepLength
 length-stored words [] = refl
@@ -50,3 +50,10 @@ get_or-fills words first (suc n) word place low high within =
           let kept = get_or-fills_other (set words first word) (first + 1) n word place (inl less) in
           kept ∙ get_or-set_at words first place word 0 is (omega arith)
     ]
+
+-- the first of the stores that are left, and those after it
+pub fills-rest : (first i n word : ℕ) → i < n → fills (first + i) (n - i) word ≡ (first + i, word) ∷ fills (first + (i + 1)) (n - (i + 1)) word
+fills-rest first i n word h =
+    let more : n - i ≡ suc (n - (i + 1)) = omega arith in
+    let next : first + i + 1 ≡ first + (i + 1) = omega arith in
+    ap (λ k. fills (first + i) k word) more ∙ ap (λ k. (first + i, word) ∷ fills k (n - (i + 1)) word) next
