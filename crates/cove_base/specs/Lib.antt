@@ -5,6 +5,7 @@ pub mod Numbers
 pub mod PageWords
 pub mod Places
 pub mod Ranges
+pub mod Rings
 pub mod Scripts
 pub mod Statuses
 pub mod Stores
