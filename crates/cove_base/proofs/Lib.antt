@@ -1,2 +1,4 @@
+pub mod HartPlaceLemmas
+pub mod ScriptPages
 mod TextRows
 pub mod StoreLemmas

@@ -1,6 +1,8 @@
 pub mod CallWords
 pub mod Guards
 pub mod HartLines
+pub mod HartPlaces
+pub mod HartValues
 pub mod Numbers
 pub mod PageWords
 pub mod Places

@@ -42,7 +42,10 @@ impl Ring {
         ensures page { result ≡ found key self.now }
         ensures few { length self.now ≤ ring_room }
     {
-        self.pairs.iter().find(|pair| pair.0 == key).map(|pair| pair.1)
+        self.pairs
+            .iter()
+            .find(|pair| pair.0 == key)
+            .map(|pair| pair.1)
     }
 
     /// Puts a page in as the newest. The key is not there yet.

@@ -1,0 +1,63 @@
+-- What a hart's place in the lines of a script says of its next line.
+use Rattle.std.proofs.Common.{◌≡◌, ℕ, zero, suc, ◌+◌, ◌<◌, Bool, true, List, [], ◌∷◌, Option, None, Some, IfSome, IsSome, length, drop, filter, slice_get, refl, sym, ◌∙◌, ap, arith, add-one}
+use Rattle.std.proofs.lemmas.Bool.{eq-eqb}
+use Rattle.cove_base.specs.declared.scripts.ScriptLine.{ScriptLine}
+use Rattle.cove_base.specs.HartLines.{lines_of, next_line}
+use Rattle.cove_base.specs.HartPlaces.{is_line_of, IsPlace}
+use Rattle.cove_base.specs.Scripts.{ScriptValue}
+
+first-drop : {X : Type 0} (xs : List X) (n : ℕ) → slice_get (drop n xs) 0 ≡ slice_get xs n
+first-drop [] zero = refl
+first-drop [] (suc n) = refl
+first-drop (x ∷ xs) zero = refl
+first-drop (x ∷ xs) (suc n) = first-drop xs n
+
+pub drop_one-drop : {X : Type 0} (xs : List X) (n : ℕ) → drop 1 (drop n xs) ≡ drop (suc n) xs
+drop_one-drop [] zero = refl
+drop_one-drop [] (suc n) = refl
+drop_one-drop (x ∷ xs) zero = refl
+drop_one-drop (x ∷ xs) (suc n) = drop_one-drop xs n
+
+module _ {X : Type 0} (p : X → Bool) where
+  first-filter : (xs : List X) → IfSome (slice_get xs 0) (λ x. p x ≡ true) → slice_get (filter p xs) 0 ≡ slice_get xs 0
+  first-filter [] passes = refl
+  first-filter (x ∷ xs) passes = rw passes
+
+  filter-rest : (xs : List X) → IfSome (slice_get xs 0) (λ x. p x ≡ true) → filter p (drop 1 xs) ≡ drop 1 (filter p xs)
+  filter-rest [] passes = refl
+  filter-rest (x ∷ xs) passes = rw passes
+
+within-some : {X : Type 0} (xs : List X) (n : ℕ) → IsSome (slice_get xs n) → n < length xs
+within-some [] n some = cc
+within-some (x ∷ xs) zero some = omega arith
+within-some (x ∷ xs) (suc n) some = omega (arith, within-some xs n some)
+
+is_own : (hart : ℕ) (line : Option ScriptLine) → IfSome line (λ l. l.hart.0 ≡ hart) → IfSome line (λ l. is_line_of hart l ≡ true)
+is_own hart None own = tt
+is_own hart (Some line) own = eq-eqb line.hart.0 hart own
+
+module _ (script : ScriptValue) (hart ended place : ℕ) (stands : IsPlace script hart ended place) where
+  starts : IfSome (slice_get (drop place script.lines) 0) (λ l. is_line_of hart l ≡ true)
+  starts = rw first-drop (is_own hart (slice_get script.lines place) stands.here)
+
+  -- the line at the place is the hart's next line
+  pub line_at_place : slice_get script.lines place ≡ next_line script hart ended
+  line_at_place =
+      sym (first-drop script.lines place)
+      ∙ sym (first-filter (is_line_of hart) (drop place script.lines) starts)
+      ∙ ap (λ lines. slice_get lines 0) stands.rest
+      ∙ first-drop (lines_of script hart) ended
+
+  -- one place on stand all that the hart has not ended once it has ended its next line
+  pub after_place : filter (is_line_of hart) (drop (place + 1) script.lines) ≡ drop (ended + 1) (lines_of script hart)
+  after_place =
+      ap (λ n. filter (is_line_of hart) (drop n script.lines)) (add-one place)
+      ∙ ap (filter (is_line_of hart)) (sym (drop_one-drop script.lines place))
+      ∙ filter-rest (is_line_of hart) (drop place script.lines) starts
+      ∙ ap (drop 1) stands.rest
+      ∙ drop_one-drop (lines_of script hart) ended
+      ∙ ap (λ n. drop n (lines_of script hart)) (sym (add-one ended))
+
+  -- a place with a line is within the script's lines
+  pub place_within : IsSome (next_line script hart ended) → place < length script.lines
+  place_within some = within-some script.lines place (rw line_at_place some)

@@ -1,0 +1,2 @@
+pub mod HartStates
+pub mod Needs
