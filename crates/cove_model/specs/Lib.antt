@@ -5,6 +5,8 @@ pub mod Effects
 pub mod Offers
 pub mod Steps
 pub mod Histories
+pub mod Tlbs
+pub mod Cached
 pub mod Follows
 pub mod Played
 pub mod Reports
