@@ -1,4 +1,10 @@
 mod GrammarRows
 pub mod AtTheEnd
+pub mod Beginning
+pub mod Members
+pub mod Runs
+pub mod Soundness
 pub mod OneHart
+pub mod Usable
+pub mod Quiet
 pub mod WithinLimits

@@ -7,6 +7,7 @@ pub mod Steps
 pub mod Histories
 pub mod Tlbs
 pub mod Cached
+pub mod Sound
 pub mod Follows
 pub mod Played
 pub mod Reports
