@@ -64,7 +64,7 @@ pub record Begun (script : ScriptValue) (H : List Entry) : Type 0 where
   pub told : (h : ℕ) → h < script.harts → told H h ≡ take (ended_by (after script H) h) (wanted script h)
   pub few : (h : ℕ) → h < script.harts → ended_by (after script H) h ≤ length (wanted script h)
 
-replicate_zero : (n i : ℕ) → slice_index (replicate n 0) i ≡ 0
+pub replicate_zero : (n i : ℕ) → slice_index (replicate n 0) i ≡ 0
 replicate_zero zero i = refl
 replicate_zero (suc n) zero = refl
 replicate_zero (suc n) (suc i) = replicate_zero n i

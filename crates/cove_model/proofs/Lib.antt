@@ -7,4 +7,7 @@ pub mod Soundness
 pub mod OneHart
 pub mod Usable
 pub mod Quiet
+pub mod Playing
+pub mod Progress
+pub mod Counting
 pub mod WithinLimits

@@ -1,5 +1,5 @@
 -- The history that a script plays by turns.
-use Rattle.std.specs.Prelude.{◌≡◌, ℕ, zero, suc, ◌+◌, ◌*◌, ◌<◌, ◌==◌, Bool, true, false, nat_lt, if◌then◌else◌, List, [], ◌∷◌, ◌++◌, length, fold, None}
+use Rattle.std.specs.Prelude.{◌≡◌, ℕ, zero, suc, ◌+◌, ◌*◌, ◌<◌, ◌≤◌, ◌⊎◌, ◌==◌, Bool, true, false, nat_lt, if◌then◌else◌, List, [], ◌∷◌, ◌++◌, length, fold, None}
 use Rattle.std.specs.List.{AllByRecursion}
 use Rattle.cove_base.specs.HartLines.{next_line}
 use Rattle.cove_base.specs.Scripts.{ScriptValue}
@@ -125,6 +125,10 @@ played limit script = (played_out limit script).history
 abbrev pub IsOver : ScriptValue → List Entry → Type 0
 IsOver script history =
     (hart : ℕ) → hart < script.harts → next_line script hart (ended_by (after script history) hart) ≡ None
+
+-- nothing is left, or the limit was reached
+abbrev pub IsEnded : (limit : ℕ) → ScriptValue → List Entry → Type 0
+IsEnded limit script history = (limit ≤ length history) ⊎ IsOver script history
 
 -- the entry of a call, with its reply
 abbrev pub call_entry : State → (hart : ℕ) → HostCall → Entry
