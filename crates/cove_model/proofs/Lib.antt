@@ -4,6 +4,8 @@ pub mod Beginning
 pub mod Members
 pub mod Runs
 pub mod Soundness
+pub mod Stepping
+pub mod Vectors
 pub mod OneHart
 pub mod Usable
 pub mod Quiet

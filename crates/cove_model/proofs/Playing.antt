@@ -16,7 +16,7 @@ use Rattle.cove_model.specs.Effects.{reply_to}
 use Rattle.cove_model.specs.Histories.{Legal, after}
 use Rattle.cove_model.specs.Offers.{Behind, Next, Nothing, Offer, offer}
 use Rattle.cove_model.specs.Owners.{has, is_host, page_at}
-use Rattle.cove_model.specs.Played.{Choice, Faults, Found, Missing, Note, Play, Succeeds, Unwalked, Walks, choice, choice_at, enough, entered, entry_by, line_turn, load_turn, noted, offer_turn, played_out, round, rounds, store_turn, turn, unplayed, walked}
+use Rattle.cove_model.specs.Played.{Choice, Faults, Found, Missing, Note, Play, Succeeds, Unwalked, Walks, choice, choice_at, enough, entered, entry_by, line_turn, load_turn, noted, offer_turn, played, played_out, round, rounds, store_turn, turn, unplayed, walked}
 use Rattle.cove_model.specs.States.{State, ended_by, harts_below, page_of, word_at}
 use Rattle.cove_model.specs.Steps.{Allows, MaySucceed}
 use Rattle.cove_model.specs.Tlbs.{tlb}
@@ -182,3 +182,8 @@ fitting_unplayed script = record { legal = tt; cached = tt; notes_fit = λ h fou
 
 pub fitting_played : (limit : ℕ) (script : ScriptValue) → Limits script → Fitting script (played_out limit script)
 fitting_played limit script limits = fitting_rounds limit script limits (enough limit script) (fold (turn limit script) unplayed script.turns) (fitting_turns limit script limits script.turns unplayed (fitting_unplayed script))
+
+-- the history that a script plays is legal and cached
+pub played_fits : (limit : ℕ) (script : ScriptValue) → Limits script → Legal script (played limit script) × IsCached script (played limit script)
+unfolding played
+played_fits limit script limits = let fitting = fitting_played limit script limits in (fitting.legal, fitting.cached)

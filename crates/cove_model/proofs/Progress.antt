@@ -196,7 +196,7 @@ at_all P a (suc n) all h low high = ⊎_elim (λ e. subst P e all.0) (λ ne. let
 
 -- ---- where no hart can go on, no line is left
 
-find_some : (p : ℕ → Bool) (xs : List ℕ) (k : ℕ) → find p xs ≡ Some k → (p k ≡ true) × (has k xs ≡ true)
+pub find_some : (p : ℕ → Bool) (xs : List ℕ) (k : ℕ) → find p xs ≡ Some k → (p k ≡ true) × (has k xs ≡ true)
 find_some p [] k e = cc
 find_some p (x ∷ xs) k e = go (p x) refl e (find_some p xs k)
   where
@@ -204,7 +204,7 @@ find_some p (x ∷ xs) k e = go (p x) refl e (find_some p xs k)
     go true t q more = let s = same_Some x k q in (ap p (sym s) ∙ t, or_left (eqb x k) (has k xs) (eq-eqb x k s))
     go false t q more = let m = more q in (m.0, or_right (eqb x k) (has k xs) m.1)
 
-earlier_line : (phase : ℕ) (o : Option ScriptLine) → is_earlier phase o ≡ true → (l : ScriptLine) × (o ≡ Some l) × (l.phase < phase)
+pub earlier_line : (phase : ℕ) (o : Option ScriptLine) → is_earlier phase o ≡ true → (l : ScriptLine) × (o ≡ Some l) × (l.phase < phase)
 earlier_line phase None e = false-true e
 earlier_line phase (Some l) e = (l, refl, ltb-true l.phase phase e)
 

@@ -1,6 +1,7 @@
 -- The legal step: which event a hart may make, and the state after it.
 use Rattle.std.specs.Prelude.{true, false, ◌≡◌, ℕ, ◌+◌, slice_set, Option, Some, None}
 use Rattle.cove_base.specs.Scripts.{ScriptValue}
+use Rattle.cove_base.specs.declared.events.Entry.{Entry}
 use Rattle.cove_base.specs.declared.events.Event.{Event}
 use Rattle.cove_base.specs.declared.events.Event.TheVariants as events
 use Rattle.cove_base.specs.declared.scripts.Line.{Line}
@@ -76,3 +77,8 @@ end_line h S = record S { ended = slice_set S.ended h (ended_by S h + 1) }
 -- the state after an event of a hart
 abbrev pub after_event : State → (hart : ℕ) → Event → State
 after_event S h event = end_line h (done S h event)
+
+-- the entry may be made in a state, and leads to another
+abbrev pub IsStep : ScriptValue → (before : State) → Entry → (afterwards : State) → Type 0
+IsStep script before entry afterwards =
+    Allows script before entry.hart.0 entry.event × (afterwards ≡ after_event before entry.hart.0 entry.event)
