@@ -1,1 +1,2 @@
 mod TextRows
+pub mod StoreLemmas

@@ -1,6 +1,11 @@
 pub mod CallWords
+pub mod Guards
+pub mod HartLines
 pub mod Numbers
+pub mod PageWords
+pub mod Places
 pub mod Ranges
 pub mod Scripts
 pub mod Statuses
+pub mod Stores
 pub mod Text

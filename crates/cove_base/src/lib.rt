@@ -8,10 +8,16 @@ mod faults;
 mod limits;
 mod lists;
 mod numbers;
+mod places;
 mod quotes;
 mod ranges;
 mod scripts;
 mod statuses;
+#[cfg(test)]
+mod tests;
+mod stores;
+mod walks;
+mod words;
 
 pub use calls::{GuestAct, HostCall};
 pub use events::{Entry, Event, Exit, History, How, Walked};
@@ -22,7 +28,14 @@ pub use limits::{
 };
 pub use lists::{Bytes, Fills, Items, Lines, Turns};
 pub use numbers::{Gpn, HartId, NoMemory, Page, Role, TvmId};
+pub use places::{
+    all_words, answered_word, count_word, epoch_word, hart_word, page_word, places_law, table_word,
+    tvm_word,
+};
 pub use quotes::Quote;
 pub use ranges::{PageRange, RangeFault, range_of};
 pub use scripts::{Fill, Line, Script, ScriptLine};
 pub use statuses::{Reply, Status};
+pub use stores::stores_law;
+pub use walks::{Noted, Target};
+pub use words::{Plain, Words};

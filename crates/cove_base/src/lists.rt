@@ -75,3 +75,14 @@ impl<T> Items<T> {
         Ok(())
     }
 }
+
+impl<T: Copy> Items<T> {
+    /// Appends copies of the items of a slice, in order, or none of them.
+    pub fn extend(&mut self, items: &[T]) -> Result<(), NoMemory>
+        ensures ok { OnOk result (self.new ≡ self.old ++ items.now) }
+        ensures err { OnErr result (self.new ≡ self.old) }
+    {
+        self.items.extend_from_slice(items)?;
+        Ok(())
+    }
+}

@@ -1,0 +1,44 @@
+use super::*;
+use std::test::Fail;
+
+#[test]
+fn ranges(rt: HostRuntime) {
+    let table = [
+        (0x4000, 1, Ok((4, 1))),
+        (0x4001, 1, Err(RangeFault::Unaligned)),
+        (0x4000, 0, Err(RangeFault::BadCount)),
+        (0x4001, 17, Err(RangeFault::BadCount)),
+        (0xf000, 1, Ok((15, 1))),
+        (0x10000, 1, Err(RangeFault::Outside)),
+        (0xe000, 3, Err(RangeFault::Outside)),
+        (0xffff_ffff_ffff_f000, 16, Err(RangeFault::Outside)),
+    ];
+    for (base, n, want) in table {
+        let found = range_of(base, n, 16).map(|range| (range.first.0, range.count));
+        assert!(rt; found == want, "at {base} {n}");
+    }
+}
+
+#[test]
+fn lists_grow(rt: HostRuntime) -> Result<(), Fail> {
+    let mut bytes = Bytes::new(rt.alloc());
+    bytes.push(7)?;
+    assert_eq!(rt; bytes.len(), 1);
+    assert_eq!(rt; bytes.get(0).copied(), Some(7));
+    assert!(rt; bytes.get(1).is_none());
+    assert_eq!(rt; bytes.as_slice(), [7].as_slice());
+    Ok(())
+}
+
+#[test]
+fn a_history_has_its_room(rt: HostRuntime) -> Result<(), Fail> {
+    let mut history = History::new(rt.alloc())?;
+    assert_eq!(rt; history.len(), 0);
+    history.push(Entry {
+        hart: HartId(1),
+        event: Event::Exec,
+    });
+    assert_eq!(rt; history.len(), 1);
+    assert!(rt; history.get(0).map(|entry| entry.hart) == Some(HartId(1)));
+    Ok(())
+}

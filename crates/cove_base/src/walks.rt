@@ -1,0 +1,17 @@
+use crate::events::Walked;
+use crate::numbers::{Gpn, Page};
+
+/// What a hart looks for: a host page, or a guest page for a fetch or for an access to data.
+#[derive(Clone, Copy, Debug, PartialEq, Eq)]
+pub enum Target {
+    Host(Page),
+    Fetch(Gpn),
+    Access(Gpn),
+}
+
+/// A walk that was made, and what it came to.
+#[derive(Clone, Copy, Debug, PartialEq, Eq)]
+pub struct Noted {
+    pub target: Target,
+    pub walked: Walked,
+}

@@ -1,0 +1,15 @@
+pub mod Owners
+pub mod States
+pub mod Refusals
+pub mod Effects
+pub mod Offers
+pub mod Steps
+pub mod Histories
+pub mod Tlbs
+pub mod Cached
+pub mod Sound
+pub mod Follows
+pub mod Played
+pub mod Reports
+pub mod Commands
+pub mod Grammar

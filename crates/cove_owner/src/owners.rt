@@ -1,0 +1,171 @@
+ghost use Rattle.std.specs.Prelude.{◌≡◌, ◌+◌, ◌<◌, ◌≤◌, ◌^◌, ◌↔◌, IsTrue, [], ◌∷◌, length, slice_index};
+ghost use Rattle.cove_base.specs.PageWords.{IsPageWord, IsHostWord, IsMappedWord, IsFreeWord};
+ghost use Rattle.cove_base.specs.Places.{page_word};
+ghost use Rattle.cove_base.specs.Stores.{stored, AllAllowed, fills};
+ghost use Rattle.cove_owner.specs.States.{word_of, IsWithin, EveryPage, SomePage};
+
+use crate::states::{PageState, decode, encode};
+use cove_base::{Page, PageRange, Words, page_word};
+
+/// The state of a page.
+pub fn state<W: Words>(w: &mut W, page: Page) -> PageState
+    requires place { page.0 < length (W.words w.old) }
+    requires limit { page.0 < 2 ^ 16 }
+    requires word { IsPageWord (slice_index (W.words w.old) page.0) }
+    ensures state { word_of result ≡ slice_index (W.words w.old) page.0 }
+    ensures within { IsWithin result }
+    ensures words { W.words w.new ≡ W.words w.old }
+    ensures clean { W.clean w.new ≡ W.clean w.old }
+    ensures guard { W.guard w.new ≡ W.guard w.old }
+{
+    decode(w.get(page_word(page)))
+}
+
+/// Sets the state of a page.
+pub fn set_state<W: Words>(w: &mut W, page: Page, s: PageState)
+    requires place { page.0 < length (W.words w.old) }
+    requires limit { page.0 < 2 ^ 16 }
+    requires within { IsWithin s }
+    requires allowed { AllAllowed (W.allows (W.guard w.old)) (W.words w.old)
+        ((page_word page.0, word_of s) ∷ []) }
+    ensures words { W.words w.new ≡ stored (W.words w.old) ((page_word page.0, word_of s) ∷ []) }
+    ensures guard { W.guard w.new ≡ W.guard w.old }
+{
+    w.set(page_word(page), encode(s));
+}
+
+/// Sets the state of each page of a range, in rising order.
+pub fn set_all<W: Words>(w: &mut W, range: PageRange, s: PageState)
+    requires places { range.first.0 + range.count ≤ length (W.words w.old) }
+    requires limit { range.first.0 + range.count ≤ 2 ^ 16 }
+    requires within { IsWithin s }
+    requires allowed { AllAllowed (W.allows (W.guard w.old)) (W.words w.old)
+        (fills (page_word range.first.0) range.count (word_of s)) }
+    ensures words { W.words w.new
+        ≡ stored (W.words w.old) (fills (page_word range.first.0) range.count (word_of s)) }
+    ensures clean { range.count ≡ 0 → W.clean w.new ≡ W.clean w.old }
+    ensures guard { W.guard w.new ≡ W.guard w.old }
+{
+    for i in 0..range.count {
+        set_state(w, Page(range.first.0 + i), s);
+    }
+}
+
+/// Whether every page of a range is the host's and not in conversion.
+pub fn all_host<W: Words>(w: &mut W, range: PageRange) -> bool
+    requires places { range.first.0 + range.count ≤ length (W.words w.old) }
+    requires limit { range.first.0 + range.count ≤ 2 ^ 16 }
+    requires page_words { EveryPage IsPageWord (W.words w.old) range.first.0 range.count }
+    ensures all { IsTrue result
+        ↔ EveryPage IsHostWord (W.words w.old) range.first.0 range.count }
+    ensures words { W.words w.new ≡ W.words w.old }
+    ensures clean { W.clean w.new ≡ W.clean w.old }
+    ensures guard { W.guard w.new ≡ W.guard w.old }
+{
+    for i in 0..range.count {
+        if !is_host(state(w, Page(range.first.0 + i))) {
+            return false;
+        }
+    }
+    true
+}
+
+/// Whether a page of a range is the host's and mapped shared.
+pub fn any_mapped<W: Words>(w: &mut W, range: PageRange) -> bool
+    requires places { range.first.0 + range.count ≤ length (W.words w.old) }
+    requires limit { range.first.0 + range.count ≤ 2 ^ 16 }
+    requires page_words { EveryPage IsPageWord (W.words w.old) range.first.0 range.count }
+    ensures any { IsTrue result
+        ↔ SomePage IsMappedWord (W.words w.old) range.first.0 range.count }
+    ensures words { W.words w.new ≡ W.words w.old }
+    ensures clean { W.clean w.new ≡ W.clean w.old }
+    ensures guard { W.guard w.new ≡ W.guard w.old }
+{
+    for i in 0..range.count {
+        if is_mapped(state(w, Page(range.first.0 + i))) {
+            return true;
+        }
+    }
+    false
+}
+
+/// Whether every page of a range may be given away, where each hart has answered at least the floor.
+pub fn all_free<W: Words>(w: &mut W, range: PageRange, floor: u64) -> bool
+    requires places { range.first.0 + range.count ≤ length (W.words w.old) }
+    requires limit { range.first.0 + range.count ≤ 2 ^ 16 }
+    requires page_words { EveryPage IsPageWord (W.words w.old) range.first.0 range.count }
+    ensures all { IsTrue result
+        ↔ EveryPage (IsFreeWord floor) (W.words w.old) range.first.0 range.count }
+    ensures words { W.words w.new ≡ W.words w.old }
+    ensures clean { W.clean w.new ≡ W.clean w.old }
+    ensures guard { W.guard w.new ≡ W.guard w.old }
+{
+    for i in 0..range.count {
+        if !is_free(state(w, Page(range.first.0 + i)), floor) {
+            return false;
+        }
+    }
+    true
+}
+
+fn is_host(s: PageState) -> bool
+    ensures { IsTrue result ↔ IsHostWord (word_of s) }
+{
+    matches!(s, PageState::Host { .. })
+}
+
+fn is_mapped(s: PageState) -> bool
+    ensures { IsTrue result ↔ IsMappedWord (word_of s) }
+{
+    matches!(s, PageState::Host { maps } if maps > 0)
+}
+
+fn is_free(s: PageState, floor: u64) -> bool
+    ensures { IsTrue result ↔ IsFreeWord floor (word_of s) }
+{
+    match s {
+        PageState::Converting { since } => since < floor,
+        PageState::Released => true,
+        _ => false,
+    }
+}
+
+#[cfg(test)]
+mod tests {
+    use super::*;
+    use cove_base::{Plain, Role, TvmId};
+    use std::test::Fail;
+
+    #[test]
+    fn pages_of_zeros_are_the_hosts(rt: HostRuntime) -> Result<(), Fail> {
+        let mut words = Plain::new(rt.alloc(), 4)?;
+        let range = PageRange {
+            first: Page(1),
+            count: 3,
+        };
+        assert_eq!(rt; state(&mut words, Page(2)), PageState::Host { maps: 0 });
+        assert!(rt; all_host(&mut words, range));
+        assert!(rt; !any_mapped(&mut words, range));
+        assert!(rt; !all_free(&mut words, range, 9));
+        Ok(())
+    }
+
+    #[test]
+    fn states_are_stored_as_page_words(rt: HostRuntime) -> Result<(), Fail> {
+        let mut words = Plain::new(rt.alloc(), 6)?;
+        set_state(&mut words, Page(0), PageState::Host { maps: 2 });
+        let given = PageState::Given {
+            tvm: TvmId(3),
+            role: Role::Vcpu,
+        };
+        set_state(&mut words, Page(1), given);
+        let range = PageRange {
+            first: Page(3),
+            count: 2,
+        };
+        set_all(&mut words, range, PageState::Converting { since: 5 });
+        set_state(&mut words, Page(5), PageState::Released);
+        assert_eq!(rt; words.as_slice(), [16, 218, 0, 41, 41, 3].as_slice());
+        Ok(())
+    }
+}
