@@ -1,18 +1,26 @@
 -- What a history gives, one entry later.
-use Rattle.std.proofs.Common.{◌≡◌, ◌≢◌, ℕ, ◌+◌, ◌<◌, List, [], ◌∷◌, ◌++◌, length, get_or, Option, Some, None, refl, ap, ◌∙◌, length-set, get_or-set_same, get_or-set_other, arith}
-use Rattle.std.proofs.lemmas.List.Sums.{fold_push}
 use Rattle.cove_base.specs.Scripts.{ScriptValue}
 use Rattle.cove_base.specs.declared.calls.HostCall.{HostCall}
 use Rattle.cove_base.specs.declared.calls.HostCall.TheVariants.{Convert}
 use Rattle.cove_base.specs.declared.events.Entry.{Entry}
 use Rattle.cove_base.specs.declared.events.Event.{Event}
-use Rattle.cove_base.specs.declared.events.Event.TheVariants as events
+use Rattle.cove_base.specs.declared.scripts.Line.{Line}
 use Rattle.cove_base.specs.declared.statuses.Reply.{Reply}
 use Rattle.cove_model.specs.Effects.{effect, state_by}
-use Rattle.cove_model.specs.Histories.{after, after_entry}
+use Rattle.cove_model.specs.Follows.{told}
+use Rattle.cove_model.specs.Histories.{EachEntry, Legal, after, after_entry, own}
 use Rattle.cove_model.specs.Refusals.{refusal}
-use Rattle.cove_model.specs.States.{State, opening, ended_by}
-use Rattle.cove_model.specs.Steps.{after_event, done}
+use Rattle.cove_model.specs.Reports.{ended_line, entry_line, entry_lines}
+use Rattle.cove_model.specs.States.{State, ended_by, opening}
+use Rattle.cove_model.specs.Steps.{Allows, after_event, asked, done}
+use Rattle.cove_model.specs.Tlbs.{Tlb, held_after, held_from, nothing_held, renewed, tlb}
+use Rattle.std.proofs.Common.{List, None, Option, Some, T, [], ap, append-nil, append_assoc, arith, eq-eqb, eqb, filter_map, fold, get_or, get_or-set_other, get_or-set_same, length, length-set, ne_eqb, refl, subst, sym, ℕ, ◌++◌, ◌+◌, ◌<◌, ◌∙◌, ◌∷◌, ◌≡◌, ◌≢◌}
+use Rattle.std.proofs.lemmas.Bool.{cond-false, cond-true}
+use Rattle.std.proofs.lemmas.List.Concat.{flat_map-append}
+use Rattle.std.proofs.lemmas.List.Elements.{filter-append, filter_map-append}
+use Rattle.std.proofs.lemmas.List.Sums.{fold_push}
+use Rattle.std.specs.List.{cons_option}
+use Rattle.cove_base.specs.declared.events.Event.TheVariants as events
 
 pub after_push : (script : ScriptValue) (history : List Entry) (entry : Entry) → after script (history ++ entry ∷ []) ≡ after_entry (after script history) entry
 after_push script history entry = fold_push after_entry (opening script) history entry
@@ -59,3 +67,84 @@ pub ended_other : (S : State) (h k : ℕ) (event : Event) → k ≢ h → ended_
 ended_other S h k event ne =
     get_or-set_other (done S h event).ended h k (ended_by (done S h event) h + 1) 0 ne
     ∙ ap (λ xs. get_or xs k 0) (done_ended S h event)
+
+-- ---- facts of each entry
+
+pub each_push : (P : List Entry → Entry → Type 0) (before history : List Entry) (entry : Entry) → EachEntry P before history → P (before ++ history) entry → EachEntry P before (history ++ entry ∷ [])
+each_push P before [] entry all here = (subst (λ b. P b entry) (append-nil before) here, tt)
+each_push P before (x ∷ history) entry all here =
+    (all.0, each_push P (before ++ x ∷ []) history entry all.1 (subst (λ b. P b entry) (sym (append_assoc before (x ∷ []) history)) here))
+
+pub each_front : (P : List Entry → Entry → Type 0) (before history : List Entry) (entry : Entry) → EachEntry P before (history ++ entry ∷ []) → EachEntry P before history
+each_front P before [] entry all = tt
+each_front P before (x ∷ history) entry all = (all.0, each_front P (before ++ x ∷ []) history entry all.1)
+
+pub each_last : (P : List Entry → Entry → Type 0) (before history : List Entry) (entry : Entry) → EachEntry P before (history ++ entry ∷ []) → P (before ++ history) entry
+each_last P before [] entry all = subst (λ b. P b entry) (sym (append-nil before)) all.0
+each_last P before (x ∷ history) entry all =
+    subst (λ b. P b entry) (append_assoc before (x ∷ []) history) (each_last P (before ++ x ∷ []) history entry all.1)
+
+-- induction from the end
+module _ (Q : List Entry → Type 0) (next : (history : List Entry) (entry : Entry) → Q history → Q (history ++ entry ∷ [])) where
+  from_front : (front history : List Entry) → Q front → Q (front ++ history)
+  from_front front [] q = subst Q (sym (append-nil front)) q
+  from_front front (x ∷ history) q = subst Q (append_assoc front (x ∷ []) history) (from_front (front ++ x ∷ []) history (next front x q))
+
+  pub from_end : Q [] → (history : List Entry) → Q history
+  from_end q history = from_front [] history q
+
+abbrev pub Allowed : ScriptValue → List Entry → Entry → Type 0
+Allowed script before entry = Allows script (after script before) entry.hart.0 entry.event
+
+pub legal_push : (script : ScriptValue) (history : List Entry) (entry : Entry) → Legal script history → Allowed script history entry → Legal script (history ++ entry ∷ [])
+legal_push script history entry legal here = each_push (Allowed script) [] history entry legal here
+
+pub legal_front : (script : ScriptValue) (history : List Entry) (entry : Entry) → Legal script (history ++ entry ∷ []) → Legal script history
+legal_front script history entry legal = each_front (Allowed script) [] history entry legal
+
+pub legal_last : (script : ScriptValue) (history : List Entry) (entry : Entry) → Legal script (history ++ entry ∷ []) → Allowed script history entry
+legal_last script history entry legal = each_last (Allowed script) [] history entry legal
+
+-- ---- own entries, and the lines that they answer
+
+pub own_same : (history : List Entry) (entry : Entry) (h : ℕ) → entry.hart.0 ≡ h → own (history ++ entry ∷ []) h ≡ own history h ++ entry ∷ []
+own_same history entry h e =
+    filter-append (λ x. eqb x.hart.0 h) history (entry ∷ [])
+    ∙ ap (λ xs. own history h ++ xs) (cond-true (eqb entry.hart.0 h) (entry ∷ []) [] (eq-eqb entry.hart.0 h e))
+
+pub own_other : (history : List Entry) (entry : Entry) (h : ℕ) → (entry.hart.0 ≡ h → ⊥) → own (history ++ entry ∷ []) h ≡ own history h
+own_other history entry h e =
+    filter-append (λ x. eqb x.hart.0 h) history (entry ∷ [])
+    ∙ ap (λ xs. own history h ++ xs) (cond-false (eqb entry.hart.0 h) (entry ∷ []) [] (ne_eqb entry.hart.0 h e))
+    ∙ append-nil (own history h)
+
+pub told_same : (history : List Entry) (entry : Entry) (h : ℕ) (line : Line) → entry.hart.0 ≡ h → asked entry.event ≡ Some line → told (history ++ entry ∷ []) h ≡ told history h ++ line ∷ []
+told_same history entry h line e a =
+    ap (filter_map (λ x. asked x.event)) (own_same history entry h e)
+    ∙ filter_map-append (λ x. asked x.event) (own history h) (entry ∷ [])
+    ∙ ap (λ o. told history h ++ cons_option o []) a
+
+pub told_other : (history : List Entry) (entry : Entry) (h : ℕ) → (entry.hart.0 ≡ h → ⊥) → told (history ++ entry ∷ []) h ≡ told history h
+told_other history entry h e = ap (filter_map (λ x. asked x.event)) (own_other history entry h e)
+
+-- ---- translations
+
+held_push : (h : ℕ) (S : State) (held : Tlb) (history : List Entry) (entry : Entry) → held_from h S held (history ++ entry ∷ []) ≡ held_after h (fold after_entry S history) (held_from h S held history) entry
+held_push h S held [] entry = refl
+held_push h S held (x ∷ history) entry = held_push h (after_entry S x) (held_after h S held x) history entry
+
+pub tlb_push : (script : ScriptValue) (history : List Entry) (entry : Entry) (h : ℕ) → tlb script (history ++ entry ∷ []) h ≡ held_after h (after script history) (tlb script history h) entry
+tlb_push script history entry h = held_push h (opening script) nothing_held history entry
+
+pub tlb_same : (script : ScriptValue) (history : List Entry) (entry : Entry) (h : ℕ) → entry.hart.0 ≡ h → tlb script (history ++ entry ∷ []) h ≡ renewed (after script history) (tlb script history h) entry.event
+tlb_same script history entry h e = tlb_push script history entry h ∙ cond-true (eqb entry.hart.0 h) _ (tlb script history h) (eq-eqb entry.hart.0 h e)
+
+pub tlb_other : (script : ScriptValue) (history : List Entry) (entry : Entry) (h : ℕ) → (entry.hart.0 ≡ h → ⊥) → tlb script (history ++ entry ∷ []) h ≡ tlb script history h
+tlb_other script history entry h e = tlb_push script history entry h ∙ cond-false (eqb entry.hart.0 h) _ (tlb script history h) (ne_eqb entry.hart.0 h e)
+
+-- ---- the journal
+
+pub lines_push : (history : List Entry) (entry : Entry) → entry_lines (history ++ entry ∷ []) ≡ entry_lines history ++ ended_line (entry_line entry)
+lines_push history entry =
+    flat_map-append (λ x. ended_line (entry_line x)) history (entry ∷ [])
+    ∙ ap (λ xs. entry_lines history ++ xs) (append-nil (ended_line (entry_line entry)))

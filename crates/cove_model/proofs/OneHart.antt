@@ -1,5 +1,5 @@
 -- A script of one hart whose lines are calls plays their answers one after another.
-use Rattle.std.proofs.Common.{◌≡◌, ℕ, zero, suc, ◌+◌, ◌-◌, ◌<◌, ◌≤◌, List, [], ◌∷◌, ◌++◌, length, take, drop, find, fold, filter, slice_get, slice_index, replicate, ⊎_elim, Some, None, IsTrue, eqb, refl, sym, ap, ◌∙◌, subst, arith, append-nil, append_assoc, add-one, take_all}
+use Rattle.std.proofs.Common.{◌≡◌, ℕ, zero, suc, ◌+◌, ◌-◌, ◌<◌, ◌≤◌, List, [], ◌∷◌, ◌++◌, length, take, drop, find, fold, filter, slice_get, slice_index, replicate, ⊎_elim, Some, None, IsTrue, nat_lt, eqb, refl, sym, ap, ◌∙◌, subst, arith, append-nil, append_assoc, add-one, take_all}
 use Rattle.std.specs.List.{AllByRecursion}
 use Rattle.std.proofs.lemmas.Bool.{cond-true, cond-false, eq-eqb, lt-ltb, le-ltb, cases_lt}
 use Rattle.std.proofs.lemmas.List.{length_push, length-replicate}
@@ -7,14 +7,16 @@ use Rattle.cove_base.specs.HartLines.{next_line}
 use Rattle.cove_base.specs.Scripts.{ScriptValue, is_within_limits}
 use Rattle.cove_base.specs.declared.calls.HostCall.{HostCall}
 use Rattle.cove_base.specs.declared.events.Entry.{Entry}
+use Rattle.cove_base.specs.declared.events.Event.TheVariants as events
 use Rattle.cove_base.specs.declared.scripts.Line.{Line}
 use Rattle.cove_base.specs.declared.scripts.Line.TheVariants as lines
 use Rattle.cove_base.specs.declared.scripts.ScriptLine.{ScriptLine}
 use Rattle.cove_model.specs.States.{State, opening, harts_below, ended_by}
 use Rattle.cove_model.specs.Offers.{Nothing, Next, offer, offer_of, first_behind, is_behind, is_earlier, unless_behind}
 use Rattle.cove_model.specs.Steps.{after_event}
+use Rattle.cove_model.specs.Effects.{reply_to}
 use Rattle.cove_model.specs.Histories.{after, after_entry}
-use Rattle.cove_model.specs.Played.{IsCall, AreCalls, call_entry, entry_of, taken, turn, round, rounds, enough, played, alone}
+use Rattle.cove_model.specs.Played.{Play, unplayed, entered, line_turn, offer_turn, IsCall, AreCalls, call_entry, entry_of, turn, round, rounds, enough, played, alone}
 use Rattle.cove_model.proofs.WithinLimits.{IsWithin, limits_of}
 use Rattle.cove_model.proofs.AtTheEnd.{after_push, ended_own, ended_length}
 
@@ -78,19 +80,19 @@ all_first (l ∷ ls) all = cond-true _ _ _ (eq-eqb _ _ all.0.hart) ∙ ap (λ xs
 
 -- ---- turns
 
-pub turn_full : (limit : ℕ) (script : ScriptValue) (H : List Entry) (h : ℕ) → limit ≤ length H → turn limit script H h ≡ H
-turn_full limit script H h full = cond-false _ _ _ (le-ltb _ _ full)
+pub turn_full : (limit : ℕ) (script : ScriptValue) (play : Play) (h : ℕ) → limit ≤ length play.history → turn limit script play h ≡ play
+turn_full limit script play h full = cond-false (nat_lt (length play.history) limit) _ play (le-ltb (length play.history) limit full)
 
-pub turn_open : (limit : ℕ) (script : ScriptValue) (H : List Entry) (h : ℕ) → length H < limit → turn limit script H h ≡ H ++ taken (after script H) h (offer script (after script H) h)
-turn_open limit script H h room = cond-true _ _ _ (lt-ltb _ _ room)
+pub turn_open : (limit : ℕ) (script : ScriptValue) (play : Play) (h : ℕ) → length play.history < limit → turn limit script play h ≡ offer_turn script play (after script play.history) h (offer script (after script play.history) h)
+turn_open limit script play h room = cond-true (nat_lt (length play.history) limit) _ play (lt-ltb (length play.history) limit room)
 
 -- the rounds are turns of the only hart
-one_round : (limit : ℕ) (script : ScriptValue) (H : List Entry) → script.harts ≡ 1 → round limit script H ≡ turn limit script H 0
-one_round limit script H one = ap (λ k. fold (turn limit script) H (harts_below k)) one
+one_round : (limit : ℕ) (script : ScriptValue) (play : Play) → script.harts ≡ 1 → round limit script play ≡ turn limit script play 0
+one_round limit script play one = ap (λ k. fold (turn limit script) play (harts_below k)) one
 
-rounds_stay : (limit : ℕ) (script : ScriptValue) (n : ℕ) (H : List Entry) → round limit script H ≡ H → rounds limit script n H ≡ H
-rounds_stay limit script zero H e = refl
-rounds_stay limit script (suc n) H e = ap (rounds limit script n) e ∙ rounds_stay limit script n H e
+pub rounds_stay : (limit : ℕ) (script : ScriptValue) (n : ℕ) (play : Play) → round limit script play ≡ play → rounds limit script n play ≡ play
+rounds_stay limit script zero play e = refl
+rounds_stay limit script (suc n) play e = ap (rounds limit script n) e ∙ rounds_stay limit script n play e
 
 -- these lines are left
 record Left (script : ScriptValue) (H : List Entry) (ls : List ScriptLine) : Type 0 where
@@ -145,17 +147,17 @@ add_suc' m n = omega arith
 
 -- the front of the entries that n rounds add
 module _ (limit : ℕ) (script : ScriptValue) (lone : IsLone script) where
-  full_rounds : (n : ℕ) (H : List Entry) (es : List Entry) → limit ≤ length H → rounds limit script n H ≡ H ++ take (limit - length H) es
-  full_rounds n H es full =
-      let none : limit - length H ≡ 0 = omega arith in
-      rounds_stay limit script n H (one_round limit script H lone.harts ∙ turn_full limit script H 0 full)
-      ∙ sym (ap (λ k. H ++ take k es) none ∙ append-nil H)
+  full_rounds : (n : ℕ) (play : Play) (es : List Entry) → limit ≤ length play.history → (rounds limit script n play).history ≡ play.history ++ take (limit - length play.history) es
+  full_rounds n play es full =
+      let none : limit - length play.history ≡ 0 = omega arith in
+      ap (λ (p : Play). p.history) (rounds_stay limit script n play (one_round limit script play lone.harts ∙ turn_full limit script play 0 full))
+      ∙ sym (ap (λ k. play.history ++ take k es) none ∙ append-nil play.history)
 
-  ended_rounds : (n : ℕ) (H : List Entry) → length H < limit → Left script H [] → rounds limit script n H ≡ H ++ take (limit - length H) []
-  ended_rounds n H room left =
-      let S = after script H in
-      rounds_stay limit script n H (one_round limit script H lone.harts ∙ turn_open limit script H 0 room ∙ ap (λ o. H ++ taken S 0 o) (no_line script H lone left) ∙ append-nil H)
-      ∙ sym (ap (λ es. H ++ es) (take_nil (limit - length H) [] refl) ∙ append-nil H)
+  ended_rounds : (n : ℕ) (play : Play) → length play.history < limit → Left script play.history [] → (rounds limit script n play).history ≡ play.history ++ take (limit - length play.history) []
+  ended_rounds n play room left =
+      let S = after script play.history in
+      ap (λ (p : Play). p.history) (rounds_stay limit script n play (one_round limit script play lone.harts ∙ turn_open limit script play 0 room ∙ ap (offer_turn script play S 0) (no_line script play.history lone left)))
+      ∙ sym (ap (λ es. play.history ++ es) (take_nil (limit - length play.history) [] refl) ∙ append-nil play.history)
 
   one_more : (H es : List Entry) (entry : Entry) → length H < limit → (H ++ entry ∷ []) ++ take (limit - length (H ++ entry ∷ [])) es ≡ H ++ take (limit - length H) (entry ∷ es)
   one_more H es entry room =
@@ -163,38 +165,39 @@ module _ (limit : ℕ) (script : ScriptValue) (lone : IsLone script) where
       let e : limit - length H ≡ suc (limit - length (H ++ entry ∷ [])) = omega arith in
       append_assoc H (entry ∷ []) (take (limit - length (H ++ entry ∷ [])) es) ∙ ap (λ k. H ++ take k (entry ∷ es)) (sym e)
 
-  one_step : (n : ℕ) (H : List Entry) (l : ScriptLine) (ls : List ScriptLine) (k : Line) → l.line ≡ k → IsCall k → length H < limit → Left script H (l ∷ ls) → ((G : List Entry) → Left script G ls → limit ≤ length G + n → rounds limit script n G ≡ G ++ take (limit - length G) (alone (after script G) ls)) → limit ≤ length H + suc n → rounds limit script (suc n) H ≡ H ++ take (limit - length H) (alone (after script H) (l ∷ ls))
-  one_step n H l ls (lines.Call call) e called room left more many =
+  one_step : (n : ℕ) (play : Play) (l : ScriptLine) (ls : List ScriptLine) (k : Line) → l.line ≡ k → IsCall k → length play.history < limit → Left script play.history (l ∷ ls) → ((next : Play) → Left script next.history ls → limit ≤ length next.history + n → (rounds limit script n next).history ≡ next.history ++ take (limit - length next.history) (alone (after script next.history) ls)) → limit ≤ length play.history + suc n → (rounds limit script (suc n) play).history ≡ play.history ++ take (limit - length play.history) (alone (after script play.history) (l ∷ ls))
+  one_step n play l ls (lines.Call call) e called room left more many =
+      let H = play.history in
       let S = after script H in
       let entry = call_entry S 0 call in
-      let G = H ++ entry ∷ [] in
-      let r : round limit script H ≡ G = one_round limit script H lone.harts ∙ turn_open limit script H 0 room ∙ ap (λ o. H ++ taken S 0 o) (a_line script H l ls lone left) ∙ ap (λ k. H ++ entry_of S 0 k) e in
+      let next = entered play 0 (events.Call call (reply_to S 0 call)) in
+      let r : round limit script play ≡ next = one_round limit script play lone.harts ∙ turn_open limit script play 0 room ∙ ap (offer_turn script play S 0) (a_line script H l ls lone left) ∙ ap (line_turn script play S 0) e in
       let size = length_push H entry in
-      let few : limit ≤ length G + n = omega arith in
-      let rest = more G (left_push script H l ls entry refl left) few in
+      let few : limit ≤ length next.history + n = omega arith in
+      let rest = more next (left_push script H l ls entry refl left) few in
       let told : alone S (l ∷ ls) ≡ entry ∷ alone (after_entry S entry) ls = alone_call S l ls call left.calls.0.hart e in
-      ap (rounds limit script n) r ∙ rest
-      ∙ ap (λ T. G ++ take (limit - length G) (alone T ls)) (after_push script H entry)
+      ap (λ p. (rounds limit script n p).history) r ∙ rest
+      ∙ ap (λ T. next.history ++ take (limit - length next.history) (alone T ls)) (after_push script H entry)
       ∙ one_more H (alone (after_entry S entry) ls) entry room
       ∙ ap (λ es. H ++ take (limit - length H) es) (sym told)
-  one_step n H l ls (lines.Load addr) e called room left more many = absurd called
-  one_step n H l ls (lines.Store addr value) e called room left more many = absurd called
+  one_step n play l ls (lines.Load addr) e called room left more many = absurd called
+  one_step n play l ls (lines.Store addr value) e called room left more many = absurd called
 
-  some_rounds : (n : ℕ) (H : List Entry) (ls : List ScriptLine) → Left script H ls → limit ≤ length H + n → rounds limit script n H ≡ H ++ take (limit - length H) (alone (after script H) ls)
-  some_rounds zero H ls left many = full_rounds zero H (alone (after script H) ls) (omega arith)
-  some_rounds (suc n) H [] left many = ⊎_elim (λ room. ended_rounds (suc n) H room left) (λ full. full_rounds (suc n) H [] full) (cases_lt (length H) limit)
-  some_rounds (suc n) H (l ∷ ls) left many =
-      let more = λ (G : List Entry) (left' : Left script G ls) (many' : limit ≤ length G + n). some_rounds n G ls left' many' in
-      ⊎_elim (λ room. one_step n H l ls l.line refl left.calls.0.call room left more many) (λ full. full_rounds (suc n) H (alone (after script H) (l ∷ ls)) full) (cases_lt (length H) limit)
+  some_rounds : (n : ℕ) (play : Play) (ls : List ScriptLine) → Left script play.history ls → limit ≤ length play.history + n → (rounds limit script n play).history ≡ play.history ++ take (limit - length play.history) (alone (after script play.history) ls)
+  some_rounds zero play ls left many = full_rounds zero play (alone (after script play.history) ls) (omega arith)
+  some_rounds (suc n) play [] left many = ⊎_elim (λ room. ended_rounds (suc n) play room left) (λ full. full_rounds (suc n) play [] full) (cases_lt (length play.history) limit)
+  some_rounds (suc n) play (l ∷ ls) left many =
+      let more = λ (next : Play) (left' : Left script next.history ls) (many' : limit ≤ length next.history + n). some_rounds n next ls left' many' in
+      ⊎_elim (λ room. one_step n play l ls l.line refl left.calls.0.call room left more many) (λ full. full_rounds (suc n) play (alone (after script play.history) (l ∷ ls)) full) (cases_lt (length play.history) limit)
 
   -- the turns that the script names come to the same
-  some_turns : (hs : List ℕ) (n : ℕ) (H : List Entry) → AllByRecursion (λ h. h ≡ 0) hs → rounds limit script n (fold (turn limit script) H hs) ≡ rounds limit script (length hs + n) H
-  some_turns [] n H all = ap (λ k. rounds limit script k H) (zero_add' n)
-  some_turns (h ∷ hs) n H all =
-      some_turns hs n (turn limit script H h) all.1
-      ∙ ap (λ k. rounds limit script (length hs + n) (turn limit script H k)) all.0
-      ∙ ap (rounds limit script (length hs + n)) (sym (one_round limit script H lone.harts))
-      ∙ ap (λ k. rounds limit script k H) (add_suc' (length hs) n)
+  some_turns : (hs : List ℕ) (n : ℕ) (play : Play) → AllByRecursion (λ h. h ≡ 0) hs → rounds limit script n (fold (turn limit script) play hs) ≡ rounds limit script (length hs + n) play
+  some_turns [] n play all = ap (λ k. rounds limit script k play) (zero_add' n)
+  some_turns (h ∷ hs) n play all =
+      some_turns hs n (turn limit script play h) all.1
+      ∙ ap (λ k. rounds limit script (length hs + n) (turn limit script play k)) all.0
+      ∙ ap (rounds limit script (length hs + n)) (sym (one_round limit script play lone.harts))
+      ∙ ap (λ k. rounds limit script k play) (add_suc' (length hs) n)
 
 -- what a script of one hart plays: the first answers, as far as the limit allows
 pub played_alone_front : (limit : ℕ) (script : ScriptValue) → IsLone script → played limit script ≡ take limit (alone (opening script) script.lines)
@@ -204,8 +207,8 @@ played_alone_front limit script lone =
     let begin : Left script [] script.lines = record { rest = ap (λ k. drop k script.lines) (first_ended script); size = size; calls = lone.lines } in
     let n = length script.turns + enough limit script in
     let many : limit ≤ 0 + n = omega arith in
-    some_turns limit script lone script.turns (enough limit script) [] lone.turns
-    ∙ some_rounds limit script lone n [] script.lines begin many
+    ap (λ (p : Play). p.history) (some_turns limit script lone script.turns (enough limit script) unplayed lone.turns)
+    ∙ some_rounds limit script lone n unplayed script.lines begin many
     ∙ ap (λ k. take k (alone (opening script) script.lines)) (sub_zero' limit)
 
 length_next : (S : State) (l : ScriptLine) (ls : List ScriptLine) (k : Line) → l.line ≡ k → l.hart.0 ≡ 0 → IsCall k → ((T : State) → length (alone T ls) ≡ length ls) → length (alone S (l ∷ ls)) ≡ suc (length ls)

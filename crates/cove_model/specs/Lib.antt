@@ -5,6 +5,9 @@ pub mod Effects
 pub mod Offers
 pub mod Steps
 pub mod Histories
+pub mod Tlbs
+pub mod Cached
+pub mod Sound
 pub mod Follows
 pub mod Played
 pub mod Reports

@@ -1,5 +1,5 @@
 -- What the machine offers a hart.
-use Rattle.std.specs.Prelude.{ℕ, Bool, false, nat_lt, Option, Some, None, find}
+use Rattle.std.specs.Prelude.{◌≡◌, ◌<◌, ◌≤◌, ℕ, Bool, false, nat_lt, Option, Some, None, find}
 use Rattle.cove_base.specs.HartLines.{next_line}
 use Rattle.cove_base.specs.Scripts.{ScriptValue}
 use Rattle.cove_base.specs.declared.scripts.Line.{Line}
@@ -24,6 +24,13 @@ is_behind script S phase hart = is_earlier phase (next_line script hart (ended_b
 -- the least hart that is behind
 abbrev pub first_behind : ScriptValue → State → (phase : ℕ) → Option ℕ
 first_behind script S phase = find (is_behind script S phase) (harts_below script.harts)
+
+-- no hart of the board has a line of an earlier phase left: where the phases of lines never fall, this is that none is behind
+abbrev pub NoneEarlier : ScriptValue → State → (phase : ℕ) → Type 0
+NoneEarlier script S phase =
+    (hart n : ℕ) (line : ScriptLine)
+    → hart < script.harts → ended_by S hart ≤ n → next_line script hart n ≡ Some line
+    → phase ≤ line.phase
 
 -- a line waits for the hart that is behind it
 abbrev pub unless_behind : Option ℕ → Line → Offer

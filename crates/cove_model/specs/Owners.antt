@@ -1,6 +1,6 @@
 -- Who holds a page, with the words that the host sees there.
-use Rattle.std.specs.Prelude.{ℕ, Bool, true, false, List, [], ◌∷◌, ◌++◌, ◌==◌, not, filter, map, take, drop, replicate, slice_index_or, Option, Some, None}
-use Rattle.std.specs.List.{list_all}
+use Rattle.std.specs.Prelude.{ℕ, Bool, true, false, List, [], ◌∷◌, ◌++◌, ◌==◌, not, filter, map, take, drop, replicate, slice_index_or, slice_set, Option, Some, None}
+use Rattle.std.specs.List.{list_all, list_any}
 
 -- what a TVM uses a page for; a page of its memory stands at a guest page
 pub data Purpose : Type 0 where
@@ -29,6 +29,10 @@ is_free (Host words) = false
 is_free (Converting held waiting words) = false
 is_free Free = true
 is_free (Given tvm purpose) = false
+
+-- a number is in a list
+abbrev pub has : (n : ℕ) → List ℕ → Bool
+has n ns = list_any (λ m. m == n) ns
 
 -- harts without one of them
 abbrev pub without : (hart : ℕ) (harts : List ℕ) → List ℕ
@@ -72,6 +76,39 @@ reclaimed (Host words) = Host words
 reclaimed (Converting held waiting words) = Converting held waiting words
 reclaimed Free = Host zeros
 reclaimed (Given tvm purpose) = Given tvm purpose
+
+-- a page after a word of it was written
+abbrev pub stored : (place value : ℕ) → Owner → Owner
+stored place value (Host words) = Host (slice_set words place value)
+stored place value (Converting held waiting words) = Converting held waiting (slice_set words place value)
+stored place value Free = Free
+stored place value (Given tvm purpose) = Given tvm purpose
+
+-- the words that the host sees of a page
+abbrev pub words_of : Owner → List ℕ
+words_of (Host words) = words
+words_of (Converting held waiting words) = words
+words_of Free = []
+words_of (Given tvm purpose) = []
+
+-- a hart may use the page: it is the host's, or on its way and the hart may hold a translation of it yet
+abbrev pub may_use : (hart : ℕ) → Owner → Bool
+may_use hart (Host words) = true
+may_use hart (Converting held waiting words) = has hart held
+may_use hart Free = false
+may_use hart (Given tvm purpose) = false
+
+-- to whom a page belongs
+pub data Holder : Type 0 where
+  TheHost : Holder
+  TheMonitor : Holder
+  OfTvm : (tvm : ℕ) → Holder
+
+abbrev pub holder : Owner → Holder
+holder (Host words) = TheHost
+holder (Converting held waiting words) = TheHost
+holder Free = TheMonitor
+holder (Given tvm purpose) = OfTvm tvm
 
 -- the page with a number; past the memory there is none of the host's
 abbrev pub page_at : (pages : List Owner) (p : ℕ) → Owner

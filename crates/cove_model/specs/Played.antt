@@ -1,59 +1,146 @@
 -- The history that a script plays by turns.
-use Rattle.std.specs.Prelude.{ℕ, zero, suc, ◌+◌, ◌*◌, nat_lt, if◌then◌else◌, List, [], ◌∷◌, ◌++◌, length, fold}
+use Rattle.std.specs.Prelude.{◌≡◌, ℕ, zero, suc, ◌+◌, ◌*◌, ◌<◌, ◌≤◌, ◌⊎◌, ◌==◌, Bool, true, false, nat_lt, if◌then◌else◌, List, [], ◌∷◌, ◌++◌, length, fold, None}
 use Rattle.std.specs.List.{AllByRecursion}
+use Rattle.cove_base.specs.HartLines.{next_line}
 use Rattle.cove_base.specs.Scripts.{ScriptValue}
 use Rattle.cove_base.specs.declared.calls.HostCall.{HostCall}
 use Rattle.cove_base.specs.declared.events.Entry.{Entry}
+use Rattle.cove_base.specs.declared.events.Event.{Event}
 use Rattle.cove_base.specs.declared.events.Event.TheVariants as events
+use Rattle.cove_base.specs.declared.events.How.{How}
+use Rattle.cove_base.specs.declared.events.How.TheVariants.{Hit, Walk}
 use Rattle.cove_base.specs.declared.scripts.Line.{Line}
 use Rattle.cove_base.specs.declared.scripts.Line.TheVariants as lines
 use Rattle.cove_base.specs.declared.scripts.ScriptLine.{ScriptLine}
-use Rattle.cove_model.specs.States.{State, harts_below}
+use Rattle.cove_model.specs.Owners.{has, is_host, page_at}
+use Rattle.cove_model.specs.States.{State, harts_below, ended_by, page_of, word_at}
 use Rattle.cove_model.specs.Effects.{reply_to}
 use Rattle.cove_model.specs.Offers.{Offer, Nothing, Behind, Next, offer}
 use Rattle.cove_model.specs.Histories.{after, after_entry}
+use Rattle.cove_model.specs.Tlbs.{tlb}
 
--- the entry of a call, with its reply
-abbrev pub call_entry : State → (hart : ℕ) → HostCall → Entry
-call_entry S h call = record { hart = record { 0 = h }; event = events.Call call (reply_to S h call) }
+-- what a hart knows of a walk that it made and did not use yet
+pub data Note : Type 0 where
+  Unwalked : Note
+  Found : Note
+  Missing : Note
 
--- the entry that a line makes; loads and stores make none yet
-abbrev pub entry_of : State → (hart : ℕ) → Line → List Entry
-entry_of S h (lines.Call call) = call_entry S h call ∷ []
-entry_of S h (lines.Load addr) = []
-entry_of S h (lines.Store addr value) = []
+-- the history so far, and the note of each hart
+pub record Play : Type 0 where
+  pub history : List Entry
+  pub notes : ℕ → Note
 
--- the entry that a hart makes of its offer, if any
-abbrev pub taken : State → (hart : ℕ) → Offer → List Entry
-taken S h Nothing = []
-taken S h (Behind other) = []
-taken S h (Next line) = entry_of S h line
+-- a play before any turn
+abbrev pub unplayed : Play
+unplayed = record { history = []; notes = λ hart. Unwalked }
 
--- the history after a turn of a hart; it never has more than `limit` entries
-abbrev pub turn : (limit : ℕ) → ScriptValue → (history : List Entry) (hart : ℕ) → List Entry
-turn limit script history h =
-    if nat_lt (length history) limit
-    then history ++ taken (after script history) h (offer script (after script history) h)
-    else history
+-- notes with another one for a hart
+abbrev pub noted : (hart : ℕ) → Note → (ℕ → Note) → ℕ → Note
+noted hart note notes other = if other == hart then note else notes other
 
--- the history after a turn of each hart
-abbrev pub round : (limit : ℕ) → ScriptValue → List Entry → List Entry
-round limit script history = fold (turn limit script) history (harts_below script.harts)
+-- the hart makes a walk, and keeps whether the page is the host's
+abbrev pub walked : Play → (hart : ℕ) → Bool → Play
+walked play hart found = record play { notes = noted hart (if found then Found else Missing) play.notes }
 
--- the history after n rounds
-abbrev pub rounds : (limit : ℕ) → ScriptValue → (n : ℕ) → List Entry → List Entry
-rounds limit script zero history = history
-rounds limit script (suc n) history = rounds limit script n (round limit script history)
+-- an entry of a hart
+abbrev pub entry_by : (hart : ℕ) → Event → Entry
+entry_by hart event = record { hart = record { 0 = hart }; event = event }
+
+-- the hart makes an entry, and has no note then
+abbrev pub entered : Play → (hart : ℕ) → Event → Play
+entered play hart event =
+    record { history = play.history ++ entry_by hart event ∷ []; notes = noted hart Unwalked play.notes }
+
+-- what a hart makes of an access: a walk, a success or a fault
+pub data Choice : Type 0 where
+  Walks : Choice
+  Succeeds : (how : How) → Choice
+  Faults : Choice
+
+-- the choice, where the hart holds the page or not, has this note, and the page is the host's or not
+abbrev pub choice : (holds : Bool) → Note → (is_host : Bool) → Choice
+choice true note host = Succeeds Hit
+choice false Unwalked host = Walks
+choice false Found host = Succeeds Walk
+choice false Missing true = Succeeds Walk
+choice false Missing false = Faults
+
+-- a turn at a load, and at a store
+abbrev pub load_turn : Play → State → (hart addr : ℕ) → Choice → Play
+load_turn play S h addr Walks = walked play h (is_host (page_at S.pages (page_of addr)))
+load_turn play S h addr (Succeeds how) = entered play h (events.Load addr how (word_at S addr))
+load_turn play S h addr Faults = entered play h (events.LoadFault addr)
+
+abbrev pub store_turn : Play → State → (hart addr value : ℕ) → Choice → Play
+store_turn play S h addr value Walks = walked play h (is_host (page_at S.pages (page_of addr)))
+store_turn play S h addr value (Succeeds how) = entered play h (events.Store addr value how)
+store_turn play S h addr value Faults = entered play h (events.StoreFault addr value)
+
+-- the choice of a hart at an address
+abbrev pub choice_at : ScriptValue → Play → State → (hart addr : ℕ) → Choice
+choice_at script play S h addr =
+    choice (has (page_of addr) (tlb script play.history h).pages) (play.notes h) (is_host (page_at S.pages (page_of addr)))
+
+-- a turn at a line
+abbrev pub line_turn : ScriptValue → Play → State → (hart : ℕ) → Line → Play
+line_turn script play S h (lines.Call call) = entered play h (events.Call call (reply_to S h call))
+line_turn script play S h (lines.Load addr) = load_turn play S h addr (choice_at script play S h addr)
+line_turn script play S h (lines.Store addr value) = store_turn play S h addr value (choice_at script play S h addr)
+
+-- a turn at an offer
+abbrev pub offer_turn : ScriptValue → Play → State → (hart : ℕ) → Offer → Play
+offer_turn script play S h Nothing = play
+offer_turn script play S h (Behind other) = play
+offer_turn script play S h (Next line) = line_turn script play S h line
+
+-- a turn of a hart; there are never more than `limit` entries
+abbrev pub turn : (limit : ℕ) → ScriptValue → Play → (hart : ℕ) → Play
+turn limit script play h =
+    if nat_lt (length play.history) limit
+    then offer_turn script play (after script play.history) h (offer script (after script play.history) h)
+    else play
+
+-- a turn of each hart
+abbrev pub round : (limit : ℕ) → ScriptValue → Play → Play
+round limit script play = fold (turn limit script) play (harts_below script.harts)
+
+-- n rounds
+abbrev pub rounds : (limit : ℕ) → ScriptValue → (n : ℕ) → Play → Play
+rounds limit script zero play = play
+rounds limit script (suc n) play = rounds limit script n (round limit script play)
 
 -- enough rounds for every script
 abbrev pub enough : (limit : ℕ) → ScriptValue → ℕ
 enough limit script = 2 * limit + script.harts + 1
 
--- the history of the turns that the script names, and of rounds until nothing is left
-unfoldable pub played : (limit : ℕ) → ScriptValue → List Entry
-played limit script = rounds limit script (enough limit script) (fold (turn limit script) [] script.turns)
+-- the turns that the script names, and rounds until nothing is left
+abbrev pub played_out : (limit : ℕ) → ScriptValue → Play
+played_out limit script = rounds limit script (enough limit script) (fold (turn limit script) unplayed script.turns)
 
--- the entries of lines that are answered one after another, from a state on
+-- the history that a script plays
+unfoldable pub played : (limit : ℕ) → ScriptValue → List Entry
+played limit script = (played_out limit script).history
+
+-- no line is left
+abbrev pub IsOver : ScriptValue → List Entry → Type 0
+IsOver script history =
+    (hart : ℕ) → hart < script.harts → next_line script hart (ended_by (after script history) hart) ≡ None
+
+-- nothing is left, or the limit was reached
+abbrev pub IsEnded : (limit : ℕ) → ScriptValue → List Entry → Type 0
+IsEnded limit script history = (limit ≤ length history) ⊎ IsOver script history
+
+-- the entry of a call, with its reply
+abbrev pub call_entry : State → (hart : ℕ) → HostCall → Entry
+call_entry S h call = entry_by h (events.Call call (reply_to S h call))
+
+-- the entry of a line that is a call
+abbrev pub entry_of : State → (hart : ℕ) → Line → List Entry
+entry_of S h (lines.Call call) = call_entry S h call ∷ []
+entry_of S h (lines.Load addr) = []
+entry_of S h (lines.Store addr value) = []
+
+-- the entries of calls that are answered one after another, from a state on
 abbrev pub alone : State → List ScriptLine → List Entry
 alone S [] = []
 alone S (line ∷ rest) =

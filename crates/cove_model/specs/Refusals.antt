@@ -88,9 +88,13 @@ checks (Inject t v id) = None
 abbrev pub is_built : HostCall → Bool
 is_built call = is_some (checks call)
 
+-- the answer to a call that is not built
+abbrev pub not_supported : Reply
+not_supported = record { status = NotSupported; value = 0 }
+
 -- the refusal by these checks; a call that is not built is not supported
 abbrev pub refusal_by : Option (State → (hart : ℕ) → List Check) → State → (hart : ℕ) → Option Reply
-refusal_by None S h = Some (record { status = NotSupported; value = 0 })
+refusal_by None S h = Some not_supported
 refusal_by (Some rows) S h = first_failing (rows S h)
 
 -- the refusal of a call by a hart, if it is refused

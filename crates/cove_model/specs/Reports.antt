@@ -71,10 +71,13 @@ entry_line entry = natural_text entry.hart.0 ++ spaced (event_text entry.event)
 abbrev pub ended_line : List ℕ → List ℕ
 ended_line line = line ++ 10 ∷ []
 
--- the lines of a history, and a last line with the number of its entries
+-- the lines of the entries of a history
+abbrev pub entry_lines : List Entry → List ℕ
+entry_lines history = flat_map (λ entry. ended_line (entry_line entry)) history
+
+-- those, and a last line with the number of the entries
 abbrev pub journal : (last : List ℕ) → List Entry → List ℕ
-journal last history =
-    flat_map (λ entry. ended_line (entry_line entry)) history ++ ended_line (last ++ spaced (natural_text (length history)))
+journal last history = entry_lines history ++ ended_line (last ++ spaced (natural_text (length history)))
 
 -- the journal of a history in which every line is ended
 abbrev pub report : List Entry → List ℕ

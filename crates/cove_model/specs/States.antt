@@ -1,9 +1,9 @@
 -- What the monitor knows, and how it begins.
-use Rattle.std.specs.Prelude.{ℕ, ◌+◌, ◌-◌, ◌*◌, nat_lt, if◌then◌else◌, List, [], ◌∷◌, map, fold, replicate, slice_index, slice_index_or}
+use Rattle.std.specs.Prelude.{ℕ, ◌+◌, ◌-◌, ◌*◌, ◌/◌, ◌%◌, nat_lt, if◌then◌else◌, List, [], ◌∷◌, map, fold, replicate, slice_index, slice_index_or}
 use Rattle.std.specs.List.{range_with_len}
 use Rattle.cove_base.specs.declared.scripts.Fill.{Fill}
 use Rattle.cove_base.specs.Scripts.{ScriptValue}
-use Rattle.cove_model.specs.Owners.{Owner, Host}
+use Rattle.cove_model.specs.Owners.{Owner, Host, page_at, words_of}
 
 -- the state of the one-thread monitor; the first three fields never change
 pub record State : Type 0 where
@@ -23,6 +23,17 @@ harts_below n = range_with_len 0 n
 -- the number of lines that a hart has ended
 abbrev pub ended_by : State → (hart : ℕ) → ℕ
 ended_by S hart = slice_index S.ended hart
+
+-- the page of a byte address, and the place of its word there
+abbrev pub page_of : (addr : ℕ) → ℕ
+page_of addr = addr / 4096
+
+abbrev pub place_of : (addr : ℕ) → ℕ
+place_of addr = addr / 8 % 512
+
+-- the word that the host sees at an address
+abbrev pub word_at : State → (addr : ℕ) → ℕ
+word_at S addr = slice_index (words_of (page_at S.pages (page_of addr))) (place_of addr)
 
 -- the pages that are mapped shared in a TVM: there is no TVM yet
 abbrev pub shared_pages : State → List ℕ

@@ -1,11 +1,13 @@
 -- The legal step: which event a hart may make, and the state after it.
-use Rattle.std.specs.Prelude.{◌≡◌, ℕ, ◌+◌, slice_set, Option, Some, None}
+use Rattle.std.specs.Prelude.{true, false, ◌≡◌, ℕ, ◌+◌, slice_set, Option, Some, None}
 use Rattle.cove_base.specs.Scripts.{ScriptValue}
+use Rattle.cove_base.specs.declared.events.Entry.{Entry}
 use Rattle.cove_base.specs.declared.events.Event.{Event}
 use Rattle.cove_base.specs.declared.events.Event.TheVariants as events
 use Rattle.cove_base.specs.declared.scripts.Line.{Line}
 use Rattle.cove_base.specs.declared.scripts.Line.TheVariants as lines
-use Rattle.cove_model.specs.States.{State, ended_by}
+use Rattle.cove_model.specs.Owners.{is_host, may_use, stored, page_at, change}
+use Rattle.cove_model.specs.States.{State, ended_by, page_of, place_of, word_at}
 use Rattle.cove_model.specs.Effects.{reply_to, state_after}
 use Rattle.cove_model.specs.Offers.{Next, offer}
 
@@ -28,13 +30,20 @@ abbrev pub IsDue : ScriptValue → State → (hart : ℕ) → Option Line → Ty
 IsDue script S h None = ⊥
 IsDue script S h (Some line) = offer script S h ≡ Next line
 
--- the event says what its line is answered; loads, stores and guests are not answered yet
+-- an access succeeds where the hart may use its page, and may fault where the page is not the host's
+abbrev pub MaySucceed : State → (hart addr : ℕ) → Type 0
+MaySucceed S h addr = may_use h (page_at S.pages (page_of addr)) ≡ true
+
+abbrev pub MayFault : State → (addr : ℕ) → Type 0
+MayFault S addr = is_host (page_at S.pages (page_of addr)) ≡ false
+
+-- the event says what its line is answered; no guest is answered yet
 abbrev pub Answers : State → (hart : ℕ) → Event → Type 0
 Answers S h (events.Call call reply) = reply ≡ reply_to S h call
-Answers S h (events.Load addr how value) = ⊥
-Answers S h (events.LoadFault addr) = ⊥
-Answers S h (events.Store addr value how) = ⊥
-Answers S h (events.StoreFault addr value) = ⊥
+Answers S h (events.Load addr how value) = MaySucceed S h addr × (value ≡ word_at S addr)
+Answers S h (events.LoadFault addr) = MayFault S addr
+Answers S h (events.Store addr value how) = MaySucceed S h addr
+Answers S h (events.StoreFault addr value) = MayFault S addr
 Answers S h (events.Fetch how) = ⊥
 Answers S h events.Exec = ⊥
 Answers S h (events.Access how) = ⊥
@@ -51,7 +60,8 @@ abbrev pub done : State → (hart : ℕ) → Event → State
 done S h (events.Call call reply) = state_after S h call
 done S h (events.Load addr how value) = S
 done S h (events.LoadFault addr) = S
-done S h (events.Store addr value how) = S
+done S h (events.Store addr value how) =
+    record S { pages = change (stored (place_of addr) value) (page_of addr) 1 S.pages }
 done S h (events.StoreFault addr value) = S
 done S h (events.Fetch how) = S
 done S h events.Exec = S
@@ -67,3 +77,8 @@ end_line h S = record S { ended = slice_set S.ended h (ended_by S h + 1) }
 -- the state after an event of a hart
 abbrev pub after_event : State → (hart : ℕ) → Event → State
 after_event S h event = end_line h (done S h event)
+
+-- the entry may be made in a state, and leads to another
+abbrev pub IsStep : ScriptValue → (before : State) → Entry → (afterwards : State) → Type 0
+IsStep script before entry afterwards =
+    Allows script before entry.hart.0 entry.event × (afterwards ≡ after_event before entry.hart.0 entry.event)

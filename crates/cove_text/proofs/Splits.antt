@@ -1,6 +1,6 @@
 -- The first line and the first word of a text, by the place of the first byte that ends it.
 use Rattle.std.proofs.Common.{◌≡◌, ℕ, suc, ◌+◌, ◌<◌, ◌≤◌, Bool, not, List, [], ◌∷◌, ◌++◌, length, take, drop, Some, None, nat_lt, position, unwrap_or, refl, sym, ap, inl, inr, add-one, arith}
-use Rattle.std.specs.List.{position_or_len}
+use Rattle.std.specs.List.{enumerate_from, position_or_len}
 use Rattle.std.proofs.lemmas.Bool.{cases_Bool, ltb-true, ltb-false}
 use Rattle.std.proofs.lemmas.List.{append-nil, append_assoc}
 use Rattle.cove_base.specs.Text.{is_blank, is_line_end, lines_from, text_lines, text_words, words_from, nonempty_piece}
@@ -137,3 +137,30 @@ text_words-first xs start e =
 -- and where it found none
 pub text_words-none : (xs : List ℕ) → None ≡ position (λ byte. not (is_blank byte)) xs → text_words xs ≡ []
 text_words-none xs e = words_from-blanks xs (position-none (λ byte. not (is_blank byte)) xs (sym e))
+
+-- ---- for a loop over numbered lines
+
+-- the item that comes next, and what is left
+pub record IsNextLine (n : ℕ) (lines : List (List ℕ)) (number : ℕ) (line : List ℕ) (others : List (ℕ × List ℕ)) : Type 0 where
+  pub rest : List (List ℕ)
+  pub lines_are : lines ≡ line ∷ rest
+  pub number_is : number ≡ n
+  pub others_are : others ≡ enumerate_from (n + 1) rest
+
+pub IsNextLine-from : (n : ℕ) (lines : List (List ℕ)) (number : ℕ) (line : List ℕ) (others : List (ℕ × List ℕ))
+    → enumerate_from n lines ≡ (number, line) ∷ others → IsNextLine n lines number line others
+IsNextLine-from n [] number line others e = absurd (cc)
+IsNextLine-from n (first ∷ rest) number line others e =
+    let tail : others ≡ enumerate_from (n + 1) rest = cc in
+    let head : (n, first) ≡ (number, line) = cc in
+    record {
+      rest = rest;
+      lines_are = ap (λ (p : ℕ × List ℕ). p.1 ∷ rest) head;
+      number_is = sym (ap (λ (p : ℕ × List ℕ). p.0) head);
+      others_are = tail;
+    }
+
+-- no item comes after the last line
+pub no_lines_from : (n : ℕ) (lines : List (List ℕ)) → enumerate_from n lines ≡ [] → lines ≡ []
+no_lines_from n [] e = refl
+no_lines_from n (line ∷ lines) e = absurd (cc)

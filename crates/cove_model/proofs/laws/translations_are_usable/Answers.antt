@@ -1,0 +1,9 @@
+use Rattle.cove_model.proofs.laws.translations_are_usable.Goals as goal
+use Rattle.cove_model.proofs.Usable.{held_since, usable}
+use Rattle.cove_model.proofs.WithinLimits.{limits_of}
+
+pub returns-clause-held : goal.returns-clause-held
+returns-clause-held c = λ script history hart p within legal held. usable script (limits_of script within) history legal hart p held
+
+pub returns-clause-found : goal.returns-clause-found
+returns-clause-found c = held_since

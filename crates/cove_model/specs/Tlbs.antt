@@ -1,0 +1,120 @@
+-- The translations that a hart holds after a history.
+use Rattle.std.specs.Prelude.{ℕ, ◌-◌, ◌==◌, ◌||◌, Bool, true, false, if◌then◌else◌, List, [], ◌∷◌, ◌++◌, length, drop}
+use Rattle.std.specs.List.{list_any}
+use Rattle.cove_base.specs.Scripts.{ScriptValue}
+use Rattle.cove_base.specs.declared.calls.GuestAct.{GuestAct}
+use Rattle.cove_base.specs.declared.calls.GuestAct.TheVariants as acts
+use Rattle.cove_base.specs.declared.calls.HostCall.{HostCall}
+use Rattle.cove_base.specs.declared.calls.HostCall.TheVariants.{Convert, GlobalFence, LocalFence, Reclaim, Create, Region, Tables, Measured, Vcpu, Finalize, Zero, Shared, Run, Invalidate, TvmFence, Validate, Remove, Destroy, Kick, Info, Bind, Unbind, Unbound, Inject}
+use Rattle.cove_base.specs.declared.events.Entry.{Entry}
+use Rattle.cove_base.specs.declared.events.Event.{Event}
+use Rattle.cove_base.specs.declared.events.Event.TheVariants as events
+use Rattle.cove_base.specs.declared.events.How.{How}
+use Rattle.cove_base.specs.declared.events.How.TheVariants.{Hit, Walk}
+use Rattle.cove_base.specs.declared.statuses.Status.{Status}
+use Rattle.cove_base.specs.declared.statuses.Status.TheVariants as statuses
+use Rattle.cove_model.specs.Histories.{after_entry}
+use Rattle.cove_model.specs.Owners.{has}
+use Rattle.cove_model.specs.States.{State, opening, page_of}
+
+-- the host pages, and the guest pages each with its page for fetches and for data, oldest first
+pub record Tlb : Type 0 where
+  pub pages : List ℕ
+  pub fetches : List (ℕ × ℕ)
+  pub accesses : List (ℕ × ℕ)
+
+-- no translation
+abbrev pub nothing_held : Tlb
+nothing_held = record { pages = []; fetches = []; accesses = [] }
+
+-- the translations of the host alone
+abbrev pub without_guests : Tlb → Tlb
+without_guests held = record held { fetches = []; accesses = [] }
+
+-- at most four are kept, the newest ones
+abbrev pub newest : {X : Type 0} → List X → List X
+newest xs = drop (length xs - 4) xs
+
+-- the pages after a success: a hit changes none, a walk adds its page
+abbrev pub filled : How → (p : ℕ) → List ℕ → List ℕ
+filled Hit p pages = pages
+filled Walk p pages = newest (pages ++ p ∷ [])
+
+abbrev pub is_success : Status → Bool
+is_success statuses.Success = true
+is_success statuses.Failed = false
+is_success statuses.NotSupported = false
+is_success statuses.InvalidParam = false
+is_success statuses.Denied = false
+is_success statuses.InvalidAddress = false
+is_success statuses.AlreadyAvailable = false
+is_success statuses.AlreadyStarted = false
+is_success statuses.AlreadyStopped = false
+
+-- the translations after an accepted call: both fences empty them all, a run those of guests
+abbrev pub after_call : HostCall → Tlb → Tlb
+after_call (Convert base n) held = held
+after_call GlobalFence held = nothing_held
+after_call LocalFence held = nothing_held
+after_call (Reclaim base n) held = held
+after_call (Create root state) held = held
+after_call (Region t gpa len) held = held
+after_call (Tables t base n) held = held
+after_call (Measured t src dst n gpa) held = held
+after_call (Vcpu t v state) held = held
+after_call (Finalize t pc arg) held = held
+after_call (Zero t base n gpa) held = held
+after_call (Shared t base n gpa) held = held
+after_call (Run t v fuel) held = without_guests held
+after_call (Invalidate t gpa n) held = held
+after_call (TvmFence t) held = held
+after_call (Validate t gpa n) held = held
+after_call (Remove t gpa n) held = held
+after_call (Destroy t) held = held
+after_call (Kick hart) held = held
+after_call Info held = held
+after_call (Bind t v hart file) held = held
+after_call (Unbind t v) held = held
+after_call (Unbound t v) held = held
+after_call (Inject t v id) held = held
+
+-- the translations after an accepted act of a guest: a share and an unshare empty those of guests
+abbrev pub after_act : GuestAct → Tlb → Tlb
+after_act (acts.Share gpa len) held = without_guests held
+after_act (acts.Unshare gpa len) held = without_guests held
+after_act acts.Extend held = held
+after_act acts.Evidence held = held
+after_act (acts.Allow id) held = held
+after_act (acts.Deny id) held = held
+after_act acts.Other held = held
+
+-- the translations of a hart after an event of its own in a state; no guest fetches or accesses yet
+abbrev pub renewed : State → Tlb → Event → Tlb
+renewed S held (events.Call call reply) = if is_success reply.status then after_call call held else held
+renewed S held (events.Load addr how value) = record held { pages = filled how (page_of addr) held.pages }
+renewed S held (events.LoadFault addr) = held
+renewed S held (events.Store addr value how) = record held { pages = filled how (page_of addr) held.pages }
+renewed S held (events.StoreFault addr value) = held
+renewed S held (events.Fetch how) = held
+renewed S held events.Exec = held
+renewed S held (events.Access how) = held
+renewed S held (events.Guest act reply) = if is_success reply.status then after_act act held else held
+renewed S held (events.Evidence quote) = held
+renewed S held (events.Exit exit) = without_guests held
+
+-- the translations of a hart after an entry of any hart in a state
+abbrev pub held_after : (hart : ℕ) → State → Tlb → Entry → Tlb
+held_after hart S held entry = if entry.hart.0 == hart then renewed S held entry.event else held
+
+-- the translations after more entries, from a state and those held in it on
+abbrev pub held_from : (hart : ℕ) → State → Tlb → List Entry → Tlb
+held_from hart S held [] = held
+held_from hart S held (entry ∷ history) = held_from hart (after_entry S entry) (held_after hart S held entry) history
+
+-- the translations of a hart after a history
+abbrev pub tlb : ScriptValue → (history : List Entry) (hart : ℕ) → Tlb
+tlb script history hart = held_from hart (opening script) nothing_held history
+
+-- a page is named by a translation
+abbrev pub names : Tlb → (p : ℕ) → Bool
+names held p = has p held.pages || list_any (λ pair. pair.1 == p) held.fetches || list_any (λ pair. pair.1 == p) held.accesses
