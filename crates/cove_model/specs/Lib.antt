@@ -11,5 +11,6 @@ pub mod Sound
 pub mod Follows
 pub mod Played
 pub mod Reports
+pub mod Examples
 pub mod Commands
 pub mod Grammar

@@ -1,22 +1,24 @@
 //! The laws of the definitions, each on a function with an empty body: its clauses say what holds of every
 //! script, state and history.
 
-ghost use Rattle.std.specs.Prelude.{◌≡◌, ◌<◌, ◌≤◌, ◌↔◌, ℕ, List, [], ◌∷◌, ◌++◌, length, Some, None, true, false, IsTrue};
+ghost use Rattle.std.specs.Prelude.{◌≡◌, ◌<◌, ◌≤◌, ◌↔◌, ℕ, List, [], ◌∷◌, ◌++◌, length, Some, None, true, false, IsTrue, codes};
 ghost use Rattle.cove_base.specs.Scripts.{ScriptValue, is_within_limits};
 ghost use Rattle.cove_base.specs.declared.calls.HostCall.{HostCall};
 ghost use Rattle.cove_base.specs.declared.events.Entry.{Entry};
 ghost use Rattle.cove_base.specs.declared.events.Event.{Event};
 ghost use Rattle.cove_base.specs.declared.events.Event.TheVariants.{Call};
+ghost use Rattle.cove_base.specs.declared.events.How.TheVariants.{Hit, Walk};
 ghost use Rattle.cove_base.specs.declared.scripts.Line.{Line};
 ghost use Rattle.cove_base.specs.declared.statuses.Reply.{Reply};
 ghost use Rattle.cove_model.specs.Cached.{IsCached, IsQuiet, IsQuietAt, IsReached, WasHost};
+ghost use Rattle.cove_model.specs.Examples.{board, during_a_fence, during_a_fence_history, faulted, load, stale, stale_history, text, there_and_back, there_and_back_history};
 ghost use Rattle.cove_model.specs.Follows.{Begins, Follows, told};
 ghost use Rattle.cove_model.specs.Histories.{Legal, after, after_entry, own};
 ghost use Rattle.cove_model.specs.Offers.{Next, NoneEarlier, first_behind, offer};
 ghost use Rattle.cove_model.specs.Owners.{has, may_use, page_at};
 ghost use Rattle.cove_model.specs.Played.{AreCalls, IsEnded, IsOver, Play, alone, played, round};
 ghost use Rattle.cove_model.specs.Refusals.{is_built, not_supported, refusal};
-ghost use Rattle.cove_model.specs.Reports.{ended_line, entry_line, entry_lines};
+ghost use Rattle.cove_model.specs.Reports.{ended_line, entry_line, entry_lines, report};
 ghost use Rattle.cove_model.specs.Sound.{IsSound};
 ghost use Rattle.cove_model.specs.States.{State, ended_by, opening};
 ghost use Rattle.cove_model.specs.Steps.{Allows, IsStep, asked};
@@ -142,4 +144,17 @@ pub fn one_hart_plays_its_answers()
     ensures { (limit : ℕ) (script : ScriptValue)
         → IsTrue (is_within_limits script) → script.harts ≡ 1 → AreCalls script → length script.lines ≤ limit
         → played limit script ≡ alone (opening script) script.lines }
+{}
+
+/// What the definitions give of three scripts: the histories that they play, and the journals of two of them.
+pub fn worked_examples()
+    ensures there_and_back { played 5 there_and_back ≡ there_and_back_history }
+    ensures there_and_back_report { report there_and_back_history
+        ≡ text (codes "0 convert 0x4000 0x1 = 0 0x0" ∷ codes "0 gfence = 0 0x0" ∷ codes "0 reclaim 0x4000 0x1 = 0 0x0" ∷ codes "end 3" ∷ []) }
+    ensures during_a_fence { played 8 during_a_fence ≡ during_a_fence_history }
+    ensures stale { played 8 stale ≡ stale_history 0x8877665544332211 Hit }
+    ensures stale_report { report (stale_history 0x8877665544332211 Hit)
+        ≡ text (codes "1 ld 0x4000 walk 8877665544332211" ∷ codes "0 convert 0x4000 0x1 = 0 0x0" ∷ codes "1 ld 0x4000 hit 8877665544332211" ∷ codes "0 ld 0x4000 walk fault" ∷ codes "end 4" ∷ []) }
+    ensures no_walk { IsCached stale (stale_history 0x8877665544332211 Walk) → ⊥ }
+    ensures no_fault { Legal (board 1 [] (load 0 0x4000 ∷ []) []) (faulted 0 0x4000 ∷ []) → ⊥ }
 {}
