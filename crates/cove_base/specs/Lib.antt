@@ -8,4 +8,5 @@ pub mod Ranges
 pub mod Scripts
 pub mod Statuses
 pub mod Stores
+pub mod TableWords
 pub mod Text
