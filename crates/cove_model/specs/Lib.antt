@@ -13,3 +13,6 @@ pub mod Played
 pub mod Reports
 pub mod Commands
 pub mod Grammar
+pub mod WordsStand
+pub mod LawfulStores
+pub mod WordLaws
