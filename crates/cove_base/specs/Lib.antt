@@ -11,4 +11,5 @@ pub mod Rings
 pub mod Scripts
 pub mod Statuses
 pub mod Stores
+pub mod TableWords
 pub mod Text

@@ -13,3 +13,12 @@ pub mod Playing
 pub mod Progress
 pub mod Counting
 pub mod WithinLimits
+pub mod HartLists
+pub mod PageLaws
+pub mod StandLemmas
+pub mod WordProofs
+pub mod BesideProofs
+pub mod FrameProofs
+pub mod LawfulProofs
+pub mod ToldProofs
+pub mod OpeningStandsProofs

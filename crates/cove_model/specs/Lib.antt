@@ -14,3 +14,6 @@ pub mod Reports
 pub mod Examples
 pub mod Commands
 pub mod Grammar
+pub mod WordsStand
+pub mod LawfulStores
+pub mod WordLaws

@@ -5,6 +5,7 @@
 
 mod laws;
 mod readings;
+mod standing;
 
 pub use laws::{
     legal_histories_are_quiet, legal_histories_begin, offers_are_allowed, one_entry_later,
@@ -13,3 +14,4 @@ pub use laws::{
     unbuilt_calls_are_refused, worked_examples,
 };
 pub use readings::{Place, Reading};
+pub use standing::{frames_law, lawful_law, telling_law, words_law};

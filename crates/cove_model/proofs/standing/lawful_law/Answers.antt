@@ -1,0 +1,14 @@
+use Rattle.cove_model.proofs.LawfulProofs.{convert_is_lawful, global_fence_is_lawful, local_fence_is_lawful, reclaim_is_lawful}
+use Rattle.cove_model.proofs.standing.lawful_law.Goals as goal
+
+pub returns-clause-convert : goal.returns-clause-convert
+returns-clause-convert c = convert_is_lawful
+
+pub returns-clause-global_fence : goal.returns-clause-global_fence
+returns-clause-global_fence c = global_fence_is_lawful
+
+pub returns-clause-local_fence : goal.returns-clause-local_fence
+returns-clause-local_fence c = local_fence_is_lawful
+
+pub returns-clause-reclaim : goal.returns-clause-reclaim
+returns-clause-reclaim c = reclaim_is_lawful
