@@ -1,0 +1,6 @@
+#![tactic(auto)]
+//! The definitions of the monitor.
+
+mod readings;
+
+pub use readings::{Place, Reading};
