@@ -1,1 +1,2 @@
+pub mod GrammarLimits
 mod GrammarRows
