@@ -1,4 +1,4 @@
+mod TextRows
 pub mod HartPlaceLemmas
 pub mod ScriptPages
-mod TextRows
 pub mod StoreLemmas

@@ -22,3 +22,4 @@ pub mod FrameProofs
 pub mod LawfulProofs
 pub mod ToldProofs
 pub mod OpeningStandsProofs
+pub mod GrammarLimits

@@ -310,21 +310,17 @@ script_of limit text =
 
 -- ---- a script in front of other text
 
--- a script, and the place after its line `end`
-pub record FrontValue : Type 0 where
-  pub script : ScriptValue
-  pub rest : ℕ
-
--- the lines from a place of the text on, up to the line `end`; a line takes its bytes and the LF after them
-abbrev pub front_lines_read : (size : ℕ) → Reading → (number place : ℕ) → List (List ℕ) → Result FrontValue ScriptFault
+-- the script of the lines from a place of the text on, up to the line `end`, and the place after that line;
+-- a line takes its bytes and the LF after them
+abbrev pub front_lines_read : (size : ℕ) → Reading → (number place : ℕ) → List (List ℕ) → Result (ScriptValue × ℕ) ScriptFault
 front_lines_read size R number place [] = Err (fault_at number NoEnd)
 front_lines_read size R number place (line ∷ lines) =
     let past : ℕ = min (place + length line + 1) size in
     then_read number (line_read R line) (λ S.
-    if has_ended S.place then Ok (record { script = script_in S; rest = past })
-    else front_lines_read size S (number + 1) past lines)
+      if has_ended S.place then Ok (script_in S, past) else front_lines_read size S (number + 1) past lines)
 
-unfoldable pub front_of : (limit : ℕ) → (text : List ℕ) → Result FrontValue ScriptFault
+-- the script in front of a text, and the place after it, or its first fault
+unfoldable pub front_of : (limit : ℕ) → (text : List ℕ) → Result (ScriptValue × ℕ) ScriptFault
 front_of limit text =
     if nat_lt limit (length text) then Err (fault_at 0 TooLong)
     else front_lines_read (length text) opening_reading 1 0 (text_lines text)
