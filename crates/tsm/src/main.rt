@@ -1,0 +1,43 @@
+//! `tsm`: a TEE Security Manager over modelled harts. It hands its words, standard input and a buffered standard
+//! output to the top call of `cove_run`, which has the theorem, and ends with the status that it answers.
+#![tactic(auto)]
+
+use cove_io::{Failed, ReadSource, WriteSink};
+use cove_run::{USAGE, tsm_alone};
+use std::env;
+use std::io::{self, BufWriter, ErrorKind};
+use std::process::ExitCode;
+
+/// Memory ran out before the first write.
+const NO_MEMORY: u8 = 1;
+
+/// The words name no command.
+const BAD_WORDS: u8 = 2;
+
+/// Standard output met a fault.
+const SINK_FAULT: u8 = 6;
+
+fn main(rt: HostRuntime) -> ExitCode {
+    let status = match run(&rt) {
+        Ok(status) => status,
+        Err(error) if error.kind() == ErrorKind::OutOfMemory => NO_MEMORY,
+        // A word that is no text is none of the table's.
+        Err(_) => BAD_WORDS,
+    };
+    if status == BAD_WORDS {
+        let _ = eprintln!(&rt; "{USAGE}");
+    }
+    ExitCode::from(status)
+}
+
+fn run(rt: &HostRuntime) -> io::Result<u8> {
+    let alloc = rt.alloc();
+    let words: Vec<String> = env::args(rt)?.skip(1).collect(alloc)?;
+    let mut source = ReadSource::new(rt.stdin());
+    let mut sink = WriteSink::new(BufWriter::new(alloc, rt.stdout())?);
+    let status = tsm_alone(alloc, words.as_slice(), &mut source, &mut sink);
+    match sink.flush() {
+        Ok(()) => Ok(status),
+        Err(Failed) => Ok(SINK_FAULT),
+    }
+}
