@@ -81,14 +81,14 @@ impl Machine {
         ensures served { Serves self.old self.new (HostCall.Reclaim base n) result }
         ensures epoch { self.new.epoch ≡ self.old.epoch }
     {
-        let range = match range_of(base, n, self.pages) {
+        let pages = match range_of(base, n, self.pages) {
             Ok(range) => range,
             Err(fault) => return refused_by(fault),
         };
-        if !are_free(self.words.as_slice(), range, self.answered) {
+        if !are_free(self.words.as_slice(), pages, self.answered) {
             return refused(Status::InvalidAddress);
         }
-        set_words(&mut self.words, range, 0);
+        set_words(&mut self.words, pages, 0);
         success()
     }
 }
