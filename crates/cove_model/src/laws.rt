@@ -19,7 +19,7 @@ ghost use Rattle.cove_model.specs.Owners.{has, may_use, page_at};
 ghost use Rattle.cove_model.specs.Played.{AreCalls, IsEnded, IsOver, Play, alone, played, round};
 ghost use Rattle.cove_model.specs.Refusals.{is_built, not_supported, refusal};
 ghost use Rattle.cove_model.specs.Reports.{ended_line, entry_line, entry_lines, report};
-ghost use Rattle.cove_model.specs.Sound.{IsSound};
+ghost use Rattle.cove_model.specs.Sound.{IsBoardOf, IsSound};
 ghost use Rattle.cove_model.specs.States.{State, ended_by, opening};
 ghost use Rattle.cove_model.specs.Steps.{Allows, IsStep, asked};
 ghost use Rattle.cove_model.specs.Tlbs.{held_after, tlb};
@@ -86,9 +86,10 @@ pub fn unbuilt_calls_are_refused()
         → is_built call ≡ false → refusal S hart call ≡ Some not_supported }
 {}
 
-/// The pages are sound after every history, legal or not.
+/// After every history, legal or not, the pages are sound and the board is the script's.
 pub fn states_are_sound()
-    ensures { (script : ScriptValue) (history : List Entry) → IsSound (after script history) }
+    ensures sound { (script : ScriptValue) (history : List Entry) → IsSound (after script history) }
+    ensures board { (script : ScriptValue) (history : List Entry) → IsBoardOf script (after script history) }
 {}
 
 /// A hart may use each page that it holds a translation of, and each that was the host's since its last entry.
