@@ -1,6 +1,7 @@
 -- The translations that a hart holds after a history.
-use Rattle.std.specs.Prelude.{ℕ, ◌-◌, ◌==◌, ◌||◌, Bool, true, false, if◌then◌else◌, List, [], ◌∷◌, ◌++◌, length, drop}
+use Rattle.std.specs.Prelude.{ℕ, ◌==◌, ◌||◌, Bool, true, false, if◌then◌else◌, List, [], ◌∷◌, ◌++◌}
 use Rattle.std.specs.List.{list_any}
+use Rattle.cove_base.specs.Rings.{keep_last, ring_room}
 use Rattle.cove_base.specs.Scripts.{ScriptValue}
 use Rattle.cove_base.specs.declared.calls.GuestAct.{GuestAct}
 use Rattle.cove_base.specs.declared.calls.GuestAct.TheVariants as acts
@@ -31,14 +32,10 @@ nothing_held = record { pages = []; fetches = []; accesses = [] }
 abbrev pub without_guests : Tlb → Tlb
 without_guests held = record held { fetches = []; accesses = [] }
 
--- at most four are kept, the newest ones
-abbrev pub newest : {X : Type 0} → List X → List X
-newest xs = drop (length xs - 4) xs
-
--- the pages after a success: a hit changes none, a walk adds its page
+-- the pages after a success: a hit changes none, a walk adds its page, for which a full list gives up its oldest
 abbrev pub filled : How → (p : ℕ) → List ℕ → List ℕ
 filled Hit p pages = pages
-filled Walk p pages = newest (pages ++ p ∷ [])
+filled Walk p pages = keep_last ring_room (pages ++ p ∷ [])
 
 abbrev pub is_success : Status → Bool
 is_success statuses.Success = true
