@@ -7,6 +7,7 @@ use Rattle.cove_base.specs.declared.events.Event.{Event}
 use Rattle.cove_base.specs.declared.scripts.Line.{Line}
 use Rattle.cove_base.specs.declared.statuses.Reply.{Reply}
 use Rattle.cove_model.specs.Effects.{effect, state_by}
+use Rattle.cove_model.specs.Examples.{call}
 use Rattle.cove_model.specs.Follows.{told}
 use Rattle.cove_model.specs.Histories.{EachEntry, Legal, after, after_entry, own}
 use Rattle.cove_model.specs.Refusals.{refusal}
@@ -27,11 +28,11 @@ after_push script history entry = fold_push after_entry (opening script) history
 
 -- ---- what no event changes
 
-effect_ended : (S : State) (h : ℕ) (call : HostCall) → (effect S h call).ended ≡ S.ended
+pub effect_ended : (S : State) (h : ℕ) (call : HostCall) → (effect S h call).ended ≡ S.ended
 effect_ended S h (Convert base n) = refl
 effect_ended S h _ = refl
 
-effect_harts : (S : State) (h : ℕ) (call : HostCall) → (effect S h call).harts ≡ S.harts
+pub effect_harts : (S : State) (h : ℕ) (call : HostCall) → (effect S h call).harts ≡ S.harts
 effect_harts S h (Convert base n) = refl
 effect_harts S h _ = refl
 

@@ -148,19 +148,19 @@ keeps_board R (x ∷ y ∷ z ∷ more) s a =
 keeps_key : (R : Reading) (words : List Word) → IsSound R → IsAccepted R (KeyLine words) (after R (KeyLine words)) → Keeps R (after R (KeyLine words))
 keeps_key R [] s a = absurd (let e = a.within in cc)
 keeps_key R (hex ∷ more) s a = record {
-    sound = record {
-      board = s.board;
-      some_key = (and_parts _ _ (not-false _ a.numbers)).0;
-      key = not-false _ a.within;
-      fills = s.fills;
-      lines = s.lines;
-      rise = s.rise;
-      past = s.past;
-      turns = s.turns;
-      fresh = s.fresh;
-    };
-    phase = omega arith;
-  }
+  sound = record {
+    board = s.board;
+    some_key = (and_parts _ _ (not-false _ a.numbers)).0;
+    key = not-false _ a.within;
+    fills = s.fills;
+    lines = s.lines;
+    rise = s.rise;
+    past = s.past;
+    turns = s.turns;
+    fresh = s.fresh;
+  };
+  phase = omega arith;
+}
 
 keeps_fill : (R : Reading) (words : List Word) → IsSound R → IsAccepted R (FillLine words) (after R (FillLine words)) → Keeps R (after R (FillLine words))
 keeps_fill R [] s a = absurd (let e = a.within in cc)
@@ -190,51 +190,51 @@ keeps_fill R (addr ∷ hex ∷ more) s a =
 
 keeps_phase : (R : Reading) (words : List Word) → IsSound R → Keeps R (after R (PhaseLine words))
 keeps_phase R words s = record {
-    sound = record {
-      board = s.board;
-      some_key = s.some_key;
-      key = s.key;
-      fills = s.fills;
-      lines = s.lines;
-      rise = s.rise;
-      past = later R.phase (R.phase + 1) (omega arith) R.lines s.past;
-      turns = s.turns;
-      fresh = λ e. absurd cc;
-    };
-    phase = omega arith;
-  }
+  sound = record {
+    board = s.board;
+    some_key = s.some_key;
+    key = s.key;
+    fills = s.fills;
+    lines = s.lines;
+    rise = s.rise;
+    past = later R.phase (R.phase + 1) (omega arith) R.lines s.past;
+    turns = s.turns;
+    fresh = λ e. absurd cc;
+  };
+  phase = omega arith;
+}
 
 keeps_turns : (R : Reading) (words : List Word) → IsSound R → IsAccepted R (TurnsLine words) (after R (TurnsLine words)) → Keeps R (after R (TurnsLine words))
 keeps_turns R words s a = record {
-    sound = record {
-      board = s.board;
-      some_key = s.some_key;
-      key = s.key;
-      fills = s.fills;
-      lines = s.lines;
-      rise = s.rise;
-      past = s.past;
-      turns = all_push (λ hart. nat_lt hart R.harts) R.turns (map value words) s.turns (not-false _ a.within);
-      fresh = λ e. absurd cc;
-    };
-    phase = omega arith;
-  }
+  sound = record {
+    board = s.board;
+    some_key = s.some_key;
+    key = s.key;
+    fills = s.fills;
+    lines = s.lines;
+    rise = s.rise;
+    past = s.past;
+    turns = all_push (λ hart. nat_lt hart R.harts) R.turns (map value words) s.turns (not-false _ a.within);
+    fresh = λ e. absurd cc;
+  };
+  phase = omega arith;
+}
 
 keeps_end : (R : Reading) (words : List Word) → IsSound R → Keeps R (after R (EndLine words))
 keeps_end R words s = record {
-    sound = record {
-      board = s.board;
-      some_key = s.some_key;
-      key = s.key;
-      fills = s.fills;
-      lines = s.lines;
-      rise = s.rise;
-      past = s.past;
-      turns = s.turns;
-      fresh = λ e. absurd cc;
-    };
-    phase = omega arith;
-  }
+  sound = record {
+    board = s.board;
+    some_key = s.some_key;
+    key = s.key;
+    fills = s.fills;
+    lines = s.lines;
+    rise = s.rise;
+    past = s.past;
+    turns = s.turns;
+    fresh = λ e. absurd cc;
+  };
+  phase = omega arith;
+}
 
 line_is_within : (R : Reading) (hart : ℕ) (found : Option Line) → R.phase < 2 ^ 20 → (nat_lt hart R.harts && option_map_or (is_line_within R.pages) found false) ≡ true → list_all (is_script_line R.pages R.harts) (script_lines hart R.phase found) ≡ true
 line_is_within R hart None small e = refl

@@ -10,6 +10,7 @@ pub mod OneHart
 pub mod Usable
 pub mod Quiet
 pub mod Playing
+pub mod Fitting
 pub mod Progress
 pub mod Counting
 pub mod WithinLimits

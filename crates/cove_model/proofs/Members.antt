@@ -2,11 +2,12 @@
 use Rattle.cove_base.specs.declared.events.How.{How}
 use Rattle.cove_base.specs.declared.events.How.TheVariants.{Hit, Walk}
 use Rattle.cove_model.specs.Owners.{has, without}
+use Rattle.cove_model.specs.Sound.{Rises}
 use Rattle.cove_model.specs.States.{harts_below}
 use Rattle.cove_model.specs.Tlbs.{filled}
 use Rattle.std.proofs.Common.{Bool, List, [], arith, cond, drop, eq-eqb, eqb, eqb-true, false, inl, inr, length, not, refl, suc, sym, true, zero, ℕ, ⊎_elim, ◌++◌, ◌+◌, ◌-◌, ◌<◌, ◌||◌, ◌∙◌, ◌∷◌, ◌≡◌, ◌≤◌, ◌⊎◌}
-use Rattle.std.proofs.lemmas.Bool.{cases_eq, or_cases, or_from, or_left, or_right}
-use Rattle.std.specs.List.{range_with_len}
+use Rattle.std.proofs.lemmas.Bool.{cases_eq, cond_both, or_cases, or_from, or_left, or_right}
+use Rattle.std.specs.List.{AllByRecursion, range_with_len}
 
 pub false-true : {P : Type 0} → false ≡ true → P
 false-true e = cc
@@ -81,3 +82,24 @@ has_filled Hit n p ps e = inl e
 has_filled Walk n p ps e = ⊎_elim inl
     (λ there. inr (⊎_elim (λ here. eqb-true p n here) false-true (or_cases (eqb p n) false there)))
     (has_append n ps (p ∷ []) (has_drop n (length (ps ++ p ∷ []) - 4) (ps ++ p ∷ []) e))
+
+-- ---- rising lists
+
+all_without : (P : ℕ → Type 0) (k : ℕ) (ns : List ℕ) → AllByRecursion P ns → AllByRecursion P (without k ns)
+all_without P k [] all = tt
+all_without P k (x ∷ xs) all = cond_both (not (eqb x k)) (x ∷ without k xs) (without k xs) (AllByRecursion P) (λ kept. (all.0, all_without P k xs all.1)) (λ left. all_without P k xs all.1)
+
+pub rises_without : (k : ℕ) (ns : List ℕ) → Rises ns → Rises (without k ns)
+rises_without k [] rises = tt
+rises_without k (x ∷ xs) rises = cond_both (not (eqb x k)) (x ∷ without k xs) (without k xs) Rises (λ kept. (all_without (λ m. x < m) k xs rises.0, rises_without k xs rises.1)) (λ left. rises_without k xs rises.1)
+
+above_range : (b a n : ℕ) → b < a → AllByRecursion (λ m. b < m) (range_with_len a n)
+above_range b a zero lt = tt
+above_range b a (suc n) lt = (lt, above_range b (a + 1) n (omega arith))
+
+rises_range : (a n : ℕ) → Rises (range_with_len a n)
+rises_range a zero = tt
+rises_range a (suc n) = (above_range a (a + 1) n (omega arith), rises_range (a + 1) n)
+
+pub rises_below : (n : ℕ) → Rises (harts_below n)
+rises_below n = rises_range 0 n

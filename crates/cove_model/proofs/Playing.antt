@@ -49,7 +49,7 @@ noted_same h k note notes e = cond-true (eqb k h) note (notes k) (eq-eqb k h e)
 pub noted_other : (h k : ℕ) (note : Note) (notes : ℕ → Note) → (k ≡ h → ⊥) → noted h note notes k ≡ notes k
 noted_other h k note notes ne = cond-false (eqb k h) note (notes k) (ne_eqb k h ne)
 
-was_longer : (script : ScriptValue) (H : List Entry) (e : Entry) (h p : ℕ) → (e.hart.0 ≡ h → ⊥) → WasHost script H h p → WasHost script (H ++ e ∷ []) h p
+pub was_longer : (script : ScriptValue) (H : List Entry) (e : Entry) (h p : ℕ) → (e.hart.0 ≡ h → ⊥) → WasHost script H h p → WasHost script (H ++ e ∷ []) h p
 was_longer script H e h p ne was = record {
   earlier = was.earlier;
   since = was.since ++ e ∷ [];
@@ -58,7 +58,7 @@ was_longer script H e h p ne was = record {
   host = was.host;
 }
 
-was_now : (script : ScriptValue) (H : List Entry) (h p : ℕ) → is_host (page_at (after script H).pages p) ≡ true → WasHost script H h p
+pub was_now : (script : ScriptValue) (H : List Entry) (h p : ℕ) → is_host (page_at (after script H).pages p) ≡ true → WasHost script H h p
 was_now script H h p host = record { earlier = H; since = []; split = sym (append-nil H); silent = refl; host = host }
 
 -- ---- an entry keeps a play fitting

@@ -10,6 +10,7 @@ use Rattle.cove_model.proofs.Members.{false-true}
 use Rattle.cove_model.proofs.Usable.{usable, use_holder, was_usable}
 use Rattle.cove_model.proofs.WithinLimits.{Limits}
 use Rattle.cove_model.specs.Cached.{IsQuiet, IsQuietAt}
+use Rattle.cove_model.specs.Examples.{call}
 use Rattle.cove_model.specs.Histories.{Legal, after}
 use Rattle.cove_model.specs.Owners.{has, may_use, page_at}
 use Rattle.cove_model.specs.States.{State}
@@ -23,24 +24,28 @@ use Rattle.cove_base.specs.declared.calls.GuestAct.TheVariants as acts
 abbrev NoGuests : Tlb → Type 0
 NoGuests held = (held.fetches ≡ []) × (held.accesses ≡ [])
 
-guests_call : (call : HostCall) (held : Tlb) → NoGuests held → NoGuests (after_call call held)
-guests_call GlobalFence held none = (refl, refl)
-guests_call LocalFence held none = (refl, refl)
-guests_call (Run t v fuel) held none = (refl, refl)
-guests_call _ held none = none
+guests_call : (call : HostCall) (accepted : Bool) (held : Tlb) → NoGuests held → NoGuests (after_call call accepted held)
+guests_call GlobalFence true held none = (refl, refl)
+guests_call GlobalFence false held none = none
+guests_call LocalFence accepted held none = (refl, refl)
+guests_call (Run t v fuel) true held none = (refl, refl)
+guests_call (Run t v fuel) false held none = none
+guests_call _ accepted held none = none
 
-guests_act : (act : GuestAct) (held : Tlb) → NoGuests held → NoGuests (after_act act held)
-guests_act (acts.Share gpa len) held none = (refl, refl)
-guests_act (acts.Unshare gpa len) held none = (refl, refl)
-guests_act _ held none = none
+guests_act : (act : GuestAct) (accepted : Bool) (held : Tlb) → NoGuests held → NoGuests (after_act act accepted held)
+guests_act (acts.Share gpa len) true held none = (refl, refl)
+guests_act (acts.Share gpa len) false held none = none
+guests_act (acts.Unshare gpa len) true held none = (refl, refl)
+guests_act (acts.Unshare gpa len) false held none = none
+guests_act _ accepted held none = none
 
 guests_cond : (b : Bool) (x y : Tlb) → NoGuests x → NoGuests y → NoGuests (cond b x y)
 guests_cond true x y p q = p
 guests_cond false x y p q = q
 
 guests_event : (S : State) (held : Tlb) (event : Event) → NoGuests held → NoGuests (renewed S held event)
-guests_event S held (events.Call call reply) none = guests_cond (is_success reply.status) (after_call call held) held (guests_call call held none) none
-guests_event S held (events.Guest act reply) none = guests_cond (is_success reply.status) (after_act act held) held (guests_act act held none) none
+guests_event S held (events.Call call reply) none = guests_call call (is_success reply.status) held none
+guests_event S held (events.Guest act reply) none = guests_act act (is_success reply.status) held none
 guests_event S held (events.Exit exit) none = (refl, refl)
 guests_event S held _ none = none
 

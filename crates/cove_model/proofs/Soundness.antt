@@ -6,18 +6,20 @@ use Rattle.cove_base.specs.declared.events.Entry.{Entry}
 use Rattle.cove_base.specs.declared.events.Event.{Event}
 use Rattle.cove_base.specs.declared.statuses.Reply.{Reply}
 use Rattle.cove_base.specs.declared.statuses.Status.TheVariants.{AlreadyStarted}
-use Rattle.cove_model.proofs.AtTheEnd.{after_push, done_harts, from_end}
-use Rattle.cove_model.proofs.Members.{false-true, has_not, has_with, has_without}
-use Rattle.cove_model.proofs.Runs.{change_cases, opening_page, opening_past, opening_size, page_map, zeros_size}
+use Rattle.cove_model.proofs.AtTheEnd.{after_push, done_harts, effect_ended, effect_harts, ended_length, from_end}
+use Rattle.cove_model.proofs.Members.{false-true, has_not, has_with, has_without, rises_below, rises_without}
+use Rattle.cove_model.proofs.Runs.{change_cases, length_change, opening_length, opening_page, opening_past, opening_size, page_map, zeros_size}
 use Rattle.cove_model.specs.Effects.{effect, state_by}
+use Rattle.cove_model.specs.Examples.{board, call}
 use Rattle.cove_model.specs.Histories.{after}
 use Rattle.cove_model.specs.Owners.{Converting, Free, Given, Host, Owner, answered, converted, fenced, has, page_at, reclaimed, settled, stored, without}
 use Rattle.cove_model.specs.Refusals.{first_failing, refusal}
-use Rattle.cove_model.specs.Sound.{IsSound, IsSoundPage, Within}
+use Rattle.cove_model.specs.Sound.{IsBoardOf, IsSound, IsSoundPage, Rises, Within}
 use Rattle.cove_model.specs.States.{State, harts_below, opening, page_of, place_of}
 use Rattle.cove_model.specs.Steps.{after_event, done}
 use Rattle.std.proofs.Common.{List, None, Option, Some, T, [], ap, arith, inl, inr, length, length-set, lt-ltb, nat_lt, refl, slice_index, subst, suc, sym, true, ℕ, ⊎_elim, ◌/◌, ◌∙◌, ◌∷◌, ◌≡◌, ◌⊎◌}
 use Rattle.std.proofs.lemmas.Bool.{cases_eq, cases_lt, cond-true}
+use Rattle.std.proofs.lemmas.List.{length-map, length-replicate}
 use Rattle.std.proofs.lemmas.Option.{none-some}
 use Rattle.cove_base.specs.declared.events.Event.TheVariants as events
 
@@ -137,10 +139,19 @@ board_move S T h old new e move within = subst (λ k. Within T.unanswered (harts
     go (Fences all u q) = subst (λ xs. Within xs (harts_below S.harts)) (sym u) (within_without h (harts_below S.harts) (harts_below S.harts) (λ n e. e))
     go (Responds u q) = subst (λ xs. Within xs (harts_below S.harts)) (sym u) (within_without h S.unanswered (harts_below S.harts) within)
 
+rises_move : (S T : State) (h : ℕ) (old new : Owner) → Move S T h old new → Rises S.unanswered → Rises T.unanswered
+rises_move S T h old new (Same u q) rises = subst Rises (sym u) rises
+rises_move S T h old new (Converts u q) rises = subst Rises (sym u) rises
+rises_move S T h old new (Reclaims u q) rises = subst Rises (sym u) rises
+rises_move S T h old new (Stores place value u q) rises = subst Rises (sym u) rises
+rises_move S T h old new (Fences all u q) rises = subst Rises (sym u) (rises_without h (harts_below S.harts) (rises_below S.harts))
+rises_move S T h old new (Responds u q) rises = subst Rises (sym u) (rises_without h S.unanswered rises)
+
 pub sound_step : (S : State) (h : ℕ) (event : Event) → IsSound S → IsSound (after_event S h event)
 sound_step S h event sound = record {
   pages_sound = λ p. sound_same (done S h event) (after_event S h event) (page_at (done S h event).pages p) refl refl (sound_move S (done S h event) h (page_at S.pages p) (page_at (done S h event).pages p) (done_harts S h event) (moves S h event p) (sound.pages_sound p));
   on_board = board_move S (done S h event) h (page_at S.pages 0) (page_at (done S h event).pages 0) (done_harts S h event) (moves S h event 0) sound.on_board;
+  rising = rises_move S (done S h event) h (page_at S.pages 0) (page_at (done S h event).pages 0) (moves S h event 0) sound.rising;
 }
 
 sound_opening : (script : ScriptValue) → IsSound (opening script)
@@ -150,9 +161,67 @@ sound_opening script = record {
       (λ le. subst (IsSoundPage (opening script)) (sym (opening_past script p le)) tt)
       (cases_lt p script.pages);
   on_board = λ n e. false-true e;
+  rising = tt;
 }
 
 pub sound : (script : ScriptValue) (H : List Entry) → IsSound (after script H)
 sound script = from_end (λ H. IsSound (after script H))
     (λ H e more. subst IsSound (sym (after_push script H e)) (sound_step (after script H) e.hart.0 e.event more))
     (sound_opening script)
+
+-- ---- the board never changes
+
+effect_files : (S : State) (h : ℕ) (call : HostCall) → (effect S h call).files ≡ S.files
+effect_files S h (Convert base n) = refl
+effect_files S h _ = refl
+
+effect_key : (S : State) (h : ℕ) (call : HostCall) → (effect S h call).key ≡ S.key
+effect_key S h (Convert base n) = refl
+effect_key S h _ = refl
+
+effect_size : (S : State) (h : ℕ) (call : HostCall) → length (effect S h call).pages ≡ length S.pages
+effect_size S h (Convert base n) = length_change (converted (harts_below S.harts)) (base / 4096) n S.pages
+effect_size S h GlobalFence = length-map S.pages (fenced h (without h (harts_below S.harts)))
+effect_size S h LocalFence = length-map S.pages (answered h)
+effect_size S h (Reclaim base n) = length_change reclaimed (base / 4096) n S.pages
+effect_size S h _ = refl
+
+board_by : (script : ScriptValue) (o : Option Reply) (S T : State) → IsBoardOf script S → IsBoardOf script T → IsBoardOf script (state_by o S T)
+board_by script None S T before accepted = accepted
+board_by script (Some reply) S T before accepted = before
+
+board_effect : (script : ScriptValue) (S : State) (h : ℕ) (call : HostCall) → IsBoardOf script S → IsBoardOf script (effect S h call)
+board_effect script S h call board = record {
+  same_harts = effect_harts S h call ∙ board.same_harts;
+  same_files = effect_files S h call ∙ board.same_files;
+  same_key = effect_key S h call ∙ board.same_key;
+  same_pages = effect_size S h call ∙ board.same_pages;
+  same_lists = ap length (effect_ended S h call) ∙ board.same_lists;
+}
+
+board_done : (script : ScriptValue) (S : State) (h : ℕ) (event : Event) → IsBoardOf script S → IsBoardOf script (done S h event)
+board_done script S h (events.Call call reply) board = board_by script (refusal S h call) S (effect S h call) board (board_effect script S h call board)
+board_done script S h (events.Store addr value how) board = record {
+  same_harts = board.same_harts;
+  same_files = board.same_files;
+  same_key = board.same_key;
+  same_pages = length_change (stored (place_of addr) value) (page_of addr) 1 S.pages ∙ board.same_pages;
+  same_lists = board.same_lists;
+}
+board_done script S h _ board = board
+
+board_step : (script : ScriptValue) (S : State) (h : ℕ) (event : Event) → IsBoardOf script S → IsBoardOf script (after_event S h event)
+board_step script S h event board =
+    let b = board_done script S h event board in
+    record {
+      same_harts = b.same_harts;
+      same_files = b.same_files;
+      same_key = b.same_key;
+      same_pages = b.same_pages;
+      same_lists = ended_length S h event ∙ board.same_lists;
+    }
+
+pub board_of : (script : ScriptValue) (H : List Entry) → IsBoardOf script (after script H)
+board_of script = from_end (λ H. IsBoardOf script (after script H))
+    (λ H e more. subst (IsBoardOf script) (sym (after_push script H e)) (board_step script (after script H) e.hart.0 e.event more))
+    (record { same_harts = refl; same_files = refl; same_key = refl; same_pages = opening_length script; same_lists = length-replicate script.harts 0 })

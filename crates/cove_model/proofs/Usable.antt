@@ -1,9 +1,8 @@
 -- A page that a hart holds a translation of is one that it may use, and so no page changes hands under a translation.
 use Rattle.cove_base.specs.HartLines.{next_line}
 use Rattle.cove_base.specs.Scripts.{ScriptValue}
-use Rattle.cove_base.specs.declared.calls.GuestAct.{GuestAct}
 use Rattle.cove_base.specs.declared.calls.HostCall.{HostCall}
-use Rattle.cove_base.specs.declared.calls.HostCall.TheVariants.{Convert, GlobalFence, LocalFence, Reclaim}
+use Rattle.cove_base.specs.declared.calls.HostCall.TheVariants.{Convert, GlobalFence, LocalFence, Reclaim, Run}
 use Rattle.cove_base.specs.declared.events.Entry.{Entry}
 use Rattle.cove_base.specs.declared.events.Event.{Event}
 use Rattle.cove_base.specs.declared.scripts.ScriptLine.{ScriptLine}
@@ -16,19 +15,19 @@ use Rattle.cove_model.proofs.Soundness.{Converts, Fences, Move, Reclaims, Respon
 use Rattle.cove_model.proofs.WithinLimits.{IsWithin, Limits}
 use Rattle.cove_model.specs.Cached.{WasHost}
 use Rattle.cove_model.specs.Effects.{answer_by, effect, state_by, value_of}
+use Rattle.cove_model.specs.Examples.{call}
 use Rattle.cove_model.specs.Histories.{Legal, after, own}
 use Rattle.cove_model.specs.Owners.{Converting, Free, Given, Host, Owner, TheHost, answered, change, converted, fenced, has, holder, is_host, may_use, page_at, reclaimed, settled, stored, without}
 use Rattle.cove_model.specs.Refusals.{refusal}
 use Rattle.cove_model.specs.Sound.{IsSound, IsSoundPage}
 use Rattle.cove_model.specs.States.{State, ended_by, harts_below, page_of, place_of}
 use Rattle.cove_model.specs.Steps.{Answers, after_event, asked, done}
-use Rattle.cove_model.specs.Tlbs.{Tlb, after_act, after_call, is_success, nothing_held, renewed, tlb}
+use Rattle.cove_model.specs.Tlbs.{Tlb, after_call, is_success, nothing_held, renewed, tlb}
 use Rattle.std.proofs.Common.{Bool, List, None, Option, Some, T, [], ap, append-nil, append_assoc, arith, cond, eqb, eqb-true, false, filter, refl, slice_get, subst, suc, sym, true, zero, ℕ, ⊎_elim, ◌++◌, ◌/◌, ◌<◌, ◌∙◌, ◌∷◌, ◌≡◌, ◌≤◌}
 use Rattle.std.proofs.lemmas.Bool.{cases_eq, cases_lt}
 use Rattle.std.proofs.lemmas.Option.{none-some, same_Some}
 use Rattle.std.specs.List.{AllByRecursion}
 use Rattle.cove_base.specs.declared.events.Event.TheVariants as events
-use Rattle.cove_base.specs.declared.calls.GuestAct.TheVariants as acts
 
 -- ---- what a step leaves to a hart
 
@@ -94,22 +93,17 @@ use_holder h (Given tvm purpose) e = false-true e
 
 -- ---- an event of the hart's own
 
-call_pages : (call : HostCall) (held : Tlb) (p : ℕ) → has p (after_call call held).pages ≡ true → has p held.pages ≡ true
-call_pages GlobalFence held p e = false-true e
-call_pages LocalFence held p e = false-true e
-call_pages _ held p e = e
-
-act_pages : (act : GuestAct) (held : Tlb) (p : ℕ) → has p (after_act act held).pages ≡ true → has p held.pages ≡ true
-act_pages acts.Extend held p e = e
-act_pages _ held p e = e
-
-fence_pages : (b : Bool) (call : HostCall) (held : Tlb) (p : ℕ) → has p (cond b (after_call call held) held).pages ≡ true → has p held.pages ≡ true
-fence_pages true call held p e = call_pages call held p e
-fence_pages false call held p e = e
+call_pages : (call : HostCall) (accepted : Bool) (held : Tlb) (p : ℕ) → has p (after_call call accepted held).pages ≡ true → has p held.pages ≡ true
+call_pages GlobalFence true held p e = false-true e
+call_pages GlobalFence false held p e = e
+call_pages LocalFence accepted held p e = false-true e
+call_pages (Run t v fuel) true held p e = e
+call_pages (Run t v fuel) false held p e = e
+call_pages _ accepted held p e = e
 
 -- what a hart held before, or came to now, it could use before
 pub was_usable : (S : State) (h : ℕ) (held : Tlb) (event : Event) (p : ℕ) → Answers S h event → (has p held.pages ≡ true → may_use h (page_at S.pages p) ≡ true) → has p (renewed S held event).pages ≡ true → may_use h (page_at S.pages p) ≡ true
-was_usable S h held (events.Call call reply) p right usable e = usable (fence_pages (is_success reply.status) call held p e)
+was_usable S h held (events.Call call reply) p right usable e = usable (call_pages call (is_success reply.status) held p e)
 was_usable S h held (events.Load addr how value) p right usable e = ⊎_elim usable (λ q. subst (λ k. may_use h (page_at S.pages k) ≡ true) q right.0) (has_filled how p (page_of addr) held.pages e)
 was_usable S h held (events.LoadFault addr) p right usable e = usable e
 was_usable S h held (events.Store addr value how) p right usable e = ⊎_elim usable (λ q. subst (λ k. may_use h (page_at S.pages k) ≡ true) q right) (has_filled how p (page_of addr) held.pages e)
@@ -124,20 +118,20 @@ was_usable S h held (events.Exit exit) p right usable e = absurd right
 use_changed : (f : Owner → Owner) (first n : ℕ) (pages : List Owner) (h p : ℕ) → ((o : Owner) → may_use h o ≡ true → may_use h (f o) ≡ true) → may_use h (page_at pages p) ≡ true → may_use h (page_at (change f first n pages) p) ≡ true
 use_changed f first n pages h p kept e = ⊎_elim (λ q. ap (may_use h) q ∙ e) (λ q. ap (may_use h) q ∙ kept (page_at pages p) e) (change_cases f first n pages p)
 
-use_effect : (S : State) (h : ℕ) (held : Tlb) (call : HostCall) (p : ℕ) → h < S.harts → may_use h (page_at S.pages p) ≡ true → has p (after_call call held).pages ≡ true → may_use h (page_at (effect S h call).pages p) ≡ true
+use_effect : (S : State) (h : ℕ) (held : Tlb) (call : HostCall) (p : ℕ) → h < S.harts → may_use h (page_at S.pages p) ≡ true → has p (after_call call true held).pages ≡ true → may_use h (page_at (effect S h call).pages p) ≡ true
 use_effect S h held (Convert base n) p lt use' e = use_changed (converted (harts_below S.harts)) (base / 4096) n S.pages h p (λ o. use_converted S.harts h o lt) use'
 use_effect S h held GlobalFence p lt use' e = false-true e
 use_effect S h held LocalFence p lt use' e = false-true e
 use_effect S h held (Reclaim base n) p lt use' e = use_changed reclaimed (base / 4096) n S.pages h p (use_reclaimed h) use'
 use_effect S h held _ p lt use' e = use'
 
-use_call : (S : State) (h : ℕ) (held : Tlb) (call : HostCall) (p : ℕ) (o : Option Reply) → h < S.harts → may_use h (page_at S.pages p) ≡ true → has p (cond (is_success (answer_by o (value_of S h call)).status) (after_call call held) held).pages ≡ true → may_use h (page_at (state_by o S (effect S h call)).pages p) ≡ true
+use_call : (S : State) (h : ℕ) (held : Tlb) (call : HostCall) (p : ℕ) (o : Option Reply) → h < S.harts → may_use h (page_at S.pages p) ≡ true → has p (after_call call (is_success (answer_by o (value_of S h call)).status) held).pages ≡ true → may_use h (page_at (state_by o S (effect S h call)).pages p) ≡ true
 use_call S h held call p None lt use' e = use_effect S h held call p lt use' e
 use_call S h held call p (Some reply) lt use' e = use'
 
 -- and it can use it afterwards
 use_own : (S : State) (h : ℕ) (held : Tlb) (event : Event) (p : ℕ) → h < S.harts → Answers S h event → may_use h (page_at S.pages p) ≡ true → has p (renewed S held event).pages ≡ true → may_use h (page_at (after_event S h event).pages p) ≡ true
-use_own S h held (events.Call call reply) p lt right use' e = use_call S h held call p (refusal S h call) lt use' (subst (λ (r : Reply). has p (cond (is_success r.status) (after_call call held) held).pages ≡ true) right e)
+use_own S h held (events.Call call reply) p lt right use' e = use_call S h held call p (refusal S h call) lt use' (subst (λ (r : Reply). has p (after_call call (is_success r.status) held).pages ≡ true) right e)
 use_own S h held (events.Load addr how value) p lt right use' e = use'
 use_own S h held (events.LoadFault addr) p lt right use' e = use'
 use_own S h held (events.Store addr value how) p lt right use' e = use_changed (stored (place_of addr) value) (page_of addr) 1 S.pages h p (use_stored h (place_of addr) value) use'

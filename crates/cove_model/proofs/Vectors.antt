@@ -13,7 +13,7 @@ use Rattle.cove_model.specs.Histories.{Legal, after, own}
 use Rattle.cove_model.specs.Owners.{is_host, page_at, zeros}
 use Rattle.cove_model.specs.Played.{played}
 use Rattle.cove_model.specs.Refusals.{refusal}
-use Rattle.cove_model.specs.Reports.{entry_line, report}
+use Rattle.cove_model.specs.Reports.{report}
 use Rattle.cove_model.specs.States.{State, opening, opening_words}
 use Rattle.std.proofs.Common.{List, None, Option, Some, [], ap, codes, drop, refl, slice_index, sym, take, true, true≢false, ℕ, ◌++◌, ◌∙◌, ◌∷◌, ◌≡◌}
 
@@ -34,8 +34,16 @@ pub read_back_played : played 5 (board 1 [] (call 0 (Convert 0x4000 1) ∷ call 
 unfolding played zeros
 read_back_played = refl
 
-pub read_back_line : entry_line (loaded 0 0x4000 Walk 0) ≡ codes "0 ld 0x4000 walk 0000000000000000"
-read_back_line = refl
+pub read_back_report : report (there_and_back_history ++ loaded 0 0x4000 Walk 0 ∷ []) ≡ text (codes "0 convert 0x4000 0x1 = 0 0x0" ∷ codes "0 gfence = 0 0x0" ∷ codes "0 reclaim 0x4000 0x1 = 0 0x0" ∷ codes "0 ld 0x4000 walk 0000000000000000" ∷ codes "end 4" ∷ [])
+read_back_report = refl
+
+-- a script without lines plays nothing
+pub nothing_played : played 5 (board 1 [] [] []) ≡ []
+unfolding played
+nothing_played = refl
+
+pub nothing_report : report [] ≡ text (codes "end 0" ∷ [])
+nothing_report = refl
 
 -- ---- the order of checks, and the end of the memory
 
@@ -71,6 +79,9 @@ not_built = refl
 pub during_a_fence_played : played 8 during_a_fence ≡ during_a_fence_history
 unfolding played
 during_a_fence_played = refl
+
+pub during_a_fence_report : report during_a_fence_history ≡ text (codes "0 convert 0x4000 0x1 = 0 0x0" ∷ codes "0 gfence = 0 0x0" ∷ codes "0 convert 0x5000 0x1 = 0 0x0" ∷ codes "0 gfence = -7 0x1" ∷ codes "1 lfence = 0 0x0" ∷ codes "0 reclaim 0x4000 0x1 = 0 0x0" ∷ codes "0 reclaim 0x5000 0x1 = -5 0x0" ∷ codes "end 7" ∷ [])
+during_a_fence_report = refl
 
 -- ---- a stale hit
 

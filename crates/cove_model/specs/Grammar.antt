@@ -317,7 +317,7 @@ front_lines_read size R number place [] = Err (fault_at number NoEnd)
 front_lines_read size R number place (line ∷ lines) =
     let past : ℕ = min (place + length line + 1) size in
     then_read number (line_read R line) (λ S.
-      if has_ended S.place then Ok (script_in S, past) else front_lines_read size S (number + 1) past lines)
+    if has_ended S.place then Ok (script_in S, past) else front_lines_read size S (number + 1) past lines)
 
 -- the script in front of a text, and the place after it, or its first fault
 unfoldable pub front_of : (limit : ℕ) → (text : List ℕ) → Result (ScriptValue × ℕ) ScriptFault

@@ -8,6 +8,7 @@ pub mod Histories
 pub mod Tlbs
 pub mod Cached
 pub mod Sound
+pub mod Fits
 pub mod Follows
 pub mod Played
 pub mod Reports

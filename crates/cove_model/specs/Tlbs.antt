@@ -1,6 +1,7 @@
 -- The translations that a hart holds after a history.
-use Rattle.std.specs.Prelude.{ℕ, ◌-◌, ◌==◌, ◌||◌, Bool, true, false, if◌then◌else◌, List, [], ◌∷◌, ◌++◌, length, drop}
+use Rattle.std.specs.Prelude.{ℕ, ◌==◌, ◌||◌, Bool, true, false, if◌then◌else◌, List, [], ◌∷◌, ◌++◌}
 use Rattle.std.specs.List.{list_any}
+use Rattle.cove_base.specs.Rings.{keep_last, ring_room}
 use Rattle.cove_base.specs.Scripts.{ScriptValue}
 use Rattle.cove_base.specs.declared.calls.GuestAct.{GuestAct}
 use Rattle.cove_base.specs.declared.calls.GuestAct.TheVariants as acts
@@ -31,14 +32,10 @@ nothing_held = record { pages = []; fetches = []; accesses = [] }
 abbrev pub without_guests : Tlb → Tlb
 without_guests held = record held { fetches = []; accesses = [] }
 
--- at most four are kept, the newest ones
-abbrev pub newest : {X : Type 0} → List X → List X
-newest xs = drop (length xs - 4) xs
-
--- the pages after a success: a hit changes none, a walk adds its page
+-- the pages after a success: a hit changes none, a walk adds its page, for which a full list gives up its oldest
 abbrev pub filled : How → (p : ℕ) → List ℕ → List ℕ
 filled Hit p pages = pages
-filled Walk p pages = newest (pages ++ p ∷ [])
+filled Walk p pages = keep_last ring_room (pages ++ p ∷ [])
 
 abbrev pub is_success : Status → Bool
 is_success statuses.Success = true
@@ -51,46 +48,46 @@ is_success statuses.AlreadyAvailable = false
 is_success statuses.AlreadyStarted = false
 is_success statuses.AlreadyStopped = false
 
--- the translations after an accepted call: both fences empty them all, a run those of guests
-abbrev pub after_call : HostCall → Tlb → Tlb
-after_call (Convert base n) held = held
-after_call GlobalFence held = nothing_held
-after_call LocalFence held = nothing_held
-after_call (Reclaim base n) held = held
-after_call (Create root state) held = held
-after_call (Region t gpa len) held = held
-after_call (Tables t base n) held = held
-after_call (Measured t src dst n gpa) held = held
-after_call (Vcpu t v state) held = held
-after_call (Finalize t pc arg) held = held
-after_call (Zero t base n gpa) held = held
-after_call (Shared t base n gpa) held = held
-after_call (Run t v fuel) held = without_guests held
-after_call (Invalidate t gpa n) held = held
-after_call (TvmFence t) held = held
-after_call (Validate t gpa n) held = held
-after_call (Remove t gpa n) held = held
-after_call (Destroy t) held = held
-after_call (Kick hart) held = held
-after_call Info held = held
-after_call (Bind t v hart file) held = held
-after_call (Unbind t v) held = held
-after_call (Unbound t v) held = held
-after_call (Inject t v id) held = held
+-- the translations after a call: an accepted global fence and every local fence empty all, an accepted run those of guests
+abbrev pub after_call : HostCall → (accepted : Bool) → Tlb → Tlb
+after_call (Convert base n) accepted held = held
+after_call GlobalFence accepted held = if accepted then nothing_held else held
+after_call LocalFence accepted held = nothing_held
+after_call (Reclaim base n) accepted held = held
+after_call (Create root state) accepted held = held
+after_call (Region t gpa len) accepted held = held
+after_call (Tables t base n) accepted held = held
+after_call (Measured t src dst n gpa) accepted held = held
+after_call (Vcpu t v state) accepted held = held
+after_call (Finalize t pc arg) accepted held = held
+after_call (Zero t base n gpa) accepted held = held
+after_call (Shared t base n gpa) accepted held = held
+after_call (Run t v fuel) accepted held = if accepted then without_guests held else held
+after_call (Invalidate t gpa n) accepted held = held
+after_call (TvmFence t) accepted held = held
+after_call (Validate t gpa n) accepted held = held
+after_call (Remove t gpa n) accepted held = held
+after_call (Destroy t) accepted held = held
+after_call (Kick hart) accepted held = held
+after_call Info accepted held = held
+after_call (Bind t v hart file) accepted held = held
+after_call (Unbind t v) accepted held = held
+after_call (Unbound t v) accepted held = held
+after_call (Inject t v id) accepted held = held
 
--- the translations after an accepted act of a guest: a share and an unshare empty those of guests
-abbrev pub after_act : GuestAct → Tlb → Tlb
-after_act (acts.Share gpa len) held = without_guests held
-after_act (acts.Unshare gpa len) held = without_guests held
-after_act acts.Extend held = held
-after_act acts.Evidence held = held
-after_act (acts.Allow id) held = held
-after_act (acts.Deny id) held = held
-after_act acts.Other held = held
+-- the translations after an act of a guest: an accepted share or unshare empties those of guests
+abbrev pub after_act : GuestAct → (accepted : Bool) → Tlb → Tlb
+after_act (acts.Share gpa len) accepted held = if accepted then without_guests held else held
+after_act (acts.Unshare gpa len) accepted held = if accepted then without_guests held else held
+after_act acts.Extend accepted held = held
+after_act acts.Evidence accepted held = held
+after_act (acts.Allow id) accepted held = held
+after_act (acts.Deny id) accepted held = held
+after_act acts.Other accepted held = held
 
 -- the translations of a hart after an event of its own in a state; no guest fetches or accesses yet
 abbrev pub renewed : State → Tlb → Event → Tlb
-renewed S held (events.Call call reply) = if is_success reply.status then after_call call held else held
+renewed S held (events.Call call reply) = after_call call (is_success reply.status) held
 renewed S held (events.Load addr how value) = record held { pages = filled how (page_of addr) held.pages }
 renewed S held (events.LoadFault addr) = held
 renewed S held (events.Store addr value how) = record held { pages = filled how (page_of addr) held.pages }
@@ -98,7 +95,7 @@ renewed S held (events.StoreFault addr value) = held
 renewed S held (events.Fetch how) = held
 renewed S held events.Exec = held
 renewed S held (events.Access how) = held
-renewed S held (events.Guest act reply) = if is_success reply.status then after_act act held else held
+renewed S held (events.Guest act reply) = after_act act (is_success reply.status) held
 renewed S held (events.Evidence quote) = held
 renewed S held (events.Exit exit) = without_guests held
 

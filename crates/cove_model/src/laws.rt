@@ -2,24 +2,29 @@
 //! script, state and history.
 
 ghost use Rattle.std.specs.Prelude.{◌≡◌, ◌<◌, ◌≤◌, ◌↔◌, ℕ, List, [], ◌∷◌, ◌++◌, length, Some, None, true, false, IsTrue, codes};
+ghost use Rattle.cove_base.specs.HartValues.{HartValue, after_walk};
 ghost use Rattle.cove_base.specs.Scripts.{ScriptValue, is_within_limits};
 ghost use Rattle.cove_base.specs.declared.calls.HostCall.{HostCall};
 ghost use Rattle.cove_base.specs.declared.events.Entry.{Entry};
 ghost use Rattle.cove_base.specs.declared.events.Event.{Event};
 ghost use Rattle.cove_base.specs.declared.events.Event.TheVariants.{Call};
 ghost use Rattle.cove_base.specs.declared.events.How.TheVariants.{Hit, Walk};
+ghost use Rattle.cove_base.specs.declared.events.Walked.TheVariants.{Found, Missing};
+ghost use Rattle.cove_base.specs.declared.numbers.Page.{Page};
 ghost use Rattle.cove_base.specs.declared.scripts.Line.{Line};
+ghost use Rattle.cove_base.specs.declared.walks.Target.TheVariants.{Host};
 ghost use Rattle.cove_base.specs.declared.statuses.Reply.{Reply};
 ghost use Rattle.cove_model.specs.Cached.{IsCached, IsQuiet, IsQuietAt, IsReached, WasHost};
 ghost use Rattle.cove_model.specs.Examples.{board, during_a_fence, during_a_fence_history, faulted, load, stale, stale_history, text, there_and_back, there_and_back_history};
+ghost use Rattle.cove_model.specs.Fits.{Fits, IsSought};
 ghost use Rattle.cove_model.specs.Follows.{Begins, Follows, told};
 ghost use Rattle.cove_model.specs.Histories.{Legal, after, after_entry, own};
 ghost use Rattle.cove_model.specs.Offers.{Next, NoneEarlier, first_behind, offer};
-ghost use Rattle.cove_model.specs.Owners.{has, may_use, page_at};
+ghost use Rattle.cove_model.specs.Owners.{has, is_host, may_use, page_at};
 ghost use Rattle.cove_model.specs.Played.{AreCalls, IsEnded, IsOver, Play, alone, played, round};
 ghost use Rattle.cove_model.specs.Refusals.{is_built, not_supported, refusal};
 ghost use Rattle.cove_model.specs.Reports.{ended_line, entry_line, entry_lines, report};
-ghost use Rattle.cove_model.specs.Sound.{IsSound};
+ghost use Rattle.cove_model.specs.Sound.{IsBoardOf, IsSound};
 ghost use Rattle.cove_model.specs.States.{State, ended_by, opening};
 ghost use Rattle.cove_model.specs.Steps.{Allows, IsStep, asked};
 ghost use Rattle.cove_model.specs.Tlbs.{held_after, tlb};
@@ -86,9 +91,10 @@ pub fn unbuilt_calls_are_refused()
         → is_built call ≡ false → refusal S hart call ≡ Some not_supported }
 {}
 
-/// The pages are sound after every history, legal or not.
+/// After every history, legal or not, the pages are sound and the board is the script's.
 pub fn states_are_sound()
-    ensures { (script : ScriptValue) (history : List Entry) → IsSound (after script history) }
+    ensures sound { (script : ScriptValue) (history : List Entry) → IsSound (after script history) }
+    ensures board { (script : ScriptValue) (history : List Entry) → IsBoardOf script (after script history) }
 {}
 
 /// A hart may use each page that it holds a translation of, and each that was the host's since its last entry.
@@ -99,6 +105,20 @@ pub fn translations_are_usable()
     ensures found { (script : ScriptValue) (history : List Entry) (hart p : ℕ)
         → hart < script.harts → WasHost script history hart p
         → may_use hart (page_at (after script history).pages p) ≡ true }
+{}
+
+/// What a hart holds keeps fitting: under each entry of another hart, and after a walk of its own for its next
+/// line, found where the page is the host's.
+pub fn harts_keep_fitting()
+    ensures others { (script : ScriptValue) (history : List Entry) (entry : Entry) (held : HartValue)
+        → (entry.hart.0 ≡ held.hart → ⊥) → Fits script history held → Fits script (history ++ entry ∷ []) held }
+    ensures found { (script : ScriptValue) (history : List Entry) (held : HartValue) (p : Page)
+        → Fits script history held → held.walked ≡ None → IsSought script history held.hart p.0
+        → is_host (page_at (after script history).pages p.0) ≡ true
+        → Fits script history (after_walk held (Host p) (Found p)) }
+    ensures missing { (script : ScriptValue) (history : List Entry) (held : HartValue) (p : Page) (word : ℕ)
+        → Fits script history held → held.walked ≡ None → IsSought script history held.hart p.0
+        → Fits script history (after_walk held (Host p) (Missing word)) }
 {}
 
 /// In a legal history no page changes hands while a translation of any hart names it.

@@ -1,5 +1,8 @@
 use Rattle.cove_model.proofs.laws.states_are_sound.Goals as goal
-use Rattle.cove_model.proofs.Soundness.{sound}
+use Rattle.cove_model.proofs.Soundness.{board_of, sound}
 
-pub returns : goal.returns
-returns c = sound
+pub returns-clause-sound : goal.returns-clause-sound
+returns-clause-sound c = sound
+
+pub returns-clause-board : goal.returns-clause-board
+returns-clause-board c = board_of
