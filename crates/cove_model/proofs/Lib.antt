@@ -23,3 +23,4 @@ pub mod LawfulProofs
 pub mod ToldProofs
 pub mod OpeningStandsProofs
 pub mod GrammarLimits
+pub mod StoreLawProofs
