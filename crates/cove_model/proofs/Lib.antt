@@ -24,3 +24,4 @@ pub mod LawfulProofs
 pub mod ToldProofs
 pub mod OpeningStandsProofs
 pub mod GrammarLimits
+pub mod StoreLawProofs

@@ -18,3 +18,4 @@ pub mod Grammar
 pub mod WordsStand
 pub mod LawfulStores
 pub mod WordLaws
+pub mod StoreLaw

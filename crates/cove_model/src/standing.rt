@@ -1,3 +1,4 @@
+ghost use Rattle.cove_model.specs.StoreLaw.{StoresKeepUsable, StoresKeepHost, StoresKeepAnswers, StoresKeepEpoch};
 ghost use Rattle.cove_model.specs.WordLaws.{OpeningStands, ConvertStands, GlobalFenceStands, LocalFenceStands, ReclaimStands, OthersLeaveOwners, NumbersLeaveWords, CountLeavesWords};
 ghost use Rattle.cove_model.specs.WordLaws.{ConvertKeepsFrames, GlobalFenceKeepsFrames, LocalFenceKeepsFrames, ReclaimZeroesFrames};
 ghost use Rattle.cove_model.specs.WordLaws.{ConvertIsLawful, GlobalFenceIsLawful, LocalFenceIsLawful, ReclaimIsLawful};
@@ -35,10 +36,17 @@ pub fn frames_law()
     ensures reclaim { ReclaimZeroesFrames }
 {}
 
-/// The law of lawful stores: the stores of each accepted call on owners are lawful. It runs no code.
+/// The law of lawful stores: the stores of each accepted call on owners are lawful, and what a lawful store
+/// of one hart leaves of the pages that another may use. It runs no code.
 pub fn lawful_law()
     ensures convert { ConvertIsLawful }
     ensures global_fence { GlobalFenceIsLawful }
     ensures local_fence { LocalFenceIsLawful }
     ensures reclaim { ReclaimIsLawful }
+
+    // A lawful store, whatever call makes it.
+    ensures usable { StoresKeepUsable }
+    ensures stays { StoresKeepHost }
+    ensures answers { StoresKeepAnswers }
+    ensures epoch { StoresKeepEpoch }
 {}
