@@ -19,3 +19,4 @@ pub mod WordsStand
 pub mod LawfulStores
 pub mod WordLaws
 pub mod StoreLaw
+pub mod ScriptText

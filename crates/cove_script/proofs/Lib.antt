@@ -1,1 +1,7 @@
+pub mod ActionsReadBack
+pub mod FormsReadBack
+pub mod JoinedText
 pub mod LoopOverLines
+pub mod NumberWords
+pub mod PrintedLines
+pub mod ScriptReadBack
