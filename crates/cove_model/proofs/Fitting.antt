@@ -54,9 +54,6 @@ fits_other script H e held ne fits = record {
 
 -- ---- a walk of the hart's own
 
-same_page : (page : Page) → (record { 0 = page.0 }) ≡ page
-same_page page = refl
-
 pub fits_found : (script : ScriptValue) (H : List Entry) (held : HartValue) (p : Page) → Fits script H held → held.walked ≡ None → IsSought script H held.hart p.0 → is_host (page_at (after script H).pages p.0) ≡ true → Fits script H (after_walk held (targets.Host p) (walks.Found p))
 fits_found script H held p fits none sought host = record {
   on_board = fits.on_board;

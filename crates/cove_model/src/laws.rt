@@ -5,6 +5,7 @@ ghost use Rattle.std.specs.Prelude.{◌≡◌, ◌<◌, ◌≤◌, ◌↔◌, �
 ghost use Rattle.cove_base.specs.HartValues.{HartValue, after_walk};
 ghost use Rattle.cove_base.specs.Scripts.{ScriptValue, is_within_limits};
 ghost use Rattle.cove_base.specs.declared.calls.HostCall.{HostCall};
+ghost use Rattle.cove_base.specs.declared.calls.HostCall.TheVariants.{Convert, Info};
 ghost use Rattle.cove_base.specs.declared.events.Entry.{Entry};
 ghost use Rattle.cove_base.specs.declared.events.Event.{Event};
 ghost use Rattle.cove_base.specs.declared.events.Event.TheVariants.{Call};
@@ -14,9 +15,11 @@ ghost use Rattle.cove_base.specs.declared.numbers.Page.{Page};
 ghost use Rattle.cove_base.specs.declared.scripts.Line.{Line};
 ghost use Rattle.cove_base.specs.declared.walks.Target.TheVariants.{Host};
 ghost use Rattle.cove_base.specs.declared.statuses.Reply.{Reply};
+ghost use Rattle.cove_base.specs.declared.statuses.Status.TheVariants.{InvalidAddress, InvalidParam, NotSupported};
 ghost use Rattle.cove_model.specs.Cached.{IsCached, IsQuiet, IsQuietAt, IsReached, WasHost};
-ghost use Rattle.cove_model.specs.Examples.{board, during_a_fence, during_a_fence_history, faulted, load, stale, stale_history, text, there_and_back, there_and_back_history};
+ghost use Rattle.cove_model.specs.Examples.{board, during_a_fence, during_a_fence_history, faulted, fresh, load, refused, stale, stale_history, text, there_and_back, there_and_back_history};
 ghost use Rattle.cove_model.specs.Fits.{Fits, IsSought};
+ghost use Rattle.cove_model.specs.Effects.{state_after};
 ghost use Rattle.cove_model.specs.Follows.{Begins, Follows, told};
 ghost use Rattle.cove_model.specs.Histories.{Legal, after, after_entry, own};
 ghost use Rattle.cove_model.specs.Offers.{Next, NoneEarlier, first_behind, offer};
@@ -164,6 +167,18 @@ pub fn one_hart_plays_its_answers()
     ensures { (limit : ℕ) (script : ScriptValue)
         → IsTrue (is_within_limits script) → script.harts ≡ 1 → AreCalls script → length script.lines ≤ limit
         → played limit script ≡ alone (opening script) script.lines }
+{}
+
+/// The first check that fails answers: on a fresh board of 16 pages, and for a page that is converted twice.
+pub fn first_checks_answer()
+    ensures misaligned { refusal fresh 0 (Convert 0x4001 1) ≡ refused InvalidAddress }
+    ensures no_pages { refusal fresh 0 (Convert 0x4000 0) ≡ refused InvalidParam }
+    ensures count_first { refusal fresh 0 (Convert 0x4001 17) ≡ refused InvalidParam }
+    ensures last_page { refusal fresh 0 (Convert 0xf000 1) ≡ None }
+    ensures past_memory { refusal fresh 0 (Convert 0x10000 1) ≡ refused InvalidAddress }
+    ensures over_the_end { refusal fresh 0 (Convert 0xe000 3) ≡ refused InvalidAddress }
+    ensures twice { refusal (state_after fresh 0 (Convert 0x4000 1)) 0 (Convert 0x4000 1) ≡ refused InvalidAddress }
+    ensures not_built { refusal fresh 0 Info ≡ refused NotSupported }
 {}
 
 /// What the definitions give of three scripts: the histories that they play, and the journals of two of them.
