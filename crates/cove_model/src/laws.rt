@@ -1,7 +1,8 @@
 //! The laws of the definitions, each on a function with an empty body: its clauses say what holds of every
 //! script, state and history.
 
-ghost use Rattle.std.specs.Prelude.{◌≡◌, ◌<◌, ◌≤◌, ◌↔◌, ℕ, List, [], ◌∷◌, ◌++◌, length, Some, None, true, false, IsTrue, codes};
+ghost use Rattle.std.specs.Prelude.{◌≡◌, ◌+◌, ◌<◌, ◌≤◌, ◌↔◌, ℕ, List, [], ◌∷◌, ◌++◌, length, Some, None, true, false, IsTrue, codes};
+ghost use Rattle.cove_base.specs.HartPlaces.{IsPlace};
 ghost use Rattle.cove_base.specs.HartValues.{HartValue, after_walk};
 ghost use Rattle.cove_base.specs.Scripts.{ScriptValue, is_within_limits};
 ghost use Rattle.cove_base.specs.declared.calls.HostCall.{HostCall};
@@ -18,7 +19,7 @@ ghost use Rattle.cove_base.specs.declared.statuses.Reply.{Reply};
 ghost use Rattle.cove_base.specs.declared.statuses.Status.TheVariants.{InvalidAddress, InvalidParam, NotSupported};
 ghost use Rattle.cove_model.specs.Cached.{IsCached, IsQuiet, IsQuietAt, IsReached, WasHost};
 ghost use Rattle.cove_model.specs.Examples.{board, during_a_fence, during_a_fence_history, faulted, fresh, load, refused, stale, stale_history, text, there_and_back, there_and_back_history};
-ghost use Rattle.cove_model.specs.Fits.{Fits, IsSought};
+ghost use Rattle.cove_model.specs.Fits.{Fits, IsSought, after_own};
 ghost use Rattle.cove_model.specs.Effects.{state_after};
 ghost use Rattle.cove_model.specs.Follows.{Begins, Follows, told};
 ghost use Rattle.cove_model.specs.Histories.{Legal, after, after_entry, own};
@@ -110,8 +111,8 @@ pub fn translations_are_usable()
         → may_use hart (page_at (after script history).pages p) ≡ true }
 {}
 
-/// What a hart holds keeps fitting: under each entry of another hart, and after a walk of its own for its next
-/// line, found where the page is the host's.
+/// What a hart holds keeps fitting: under each entry of another hart, after a walk of its own for its next line,
+/// which finds the page where it is the host's, and after an entry of its own.
 pub fn harts_keep_fitting()
     ensures others { (script : ScriptValue) (history : List Entry) (entry : Entry) (held : HartValue)
         → (entry.hart.0 ≡ held.hart → ⊥) → Fits script history held → Fits script (history ++ entry ∷ []) held }
@@ -122,6 +123,9 @@ pub fn harts_keep_fitting()
     ensures missing { (script : ScriptValue) (history : List Entry) (held : HartValue) (p : Page) (word : ℕ)
         → Fits script history held → held.walked ≡ None → IsSought script history held.hart p.0
         → Fits script history (after_walk held (Host p) (Missing word)) }
+    ensures entered { (script : ScriptValue) (history : List Entry) (entry : Entry) (held : HartValue) (place : ℕ)
+        → Fits script history held → entry.hart.0 ≡ held.hart → IsPlace script held.hart (held.ended + 1) place
+        → Fits script (history ++ entry ∷ []) (after_own script history entry held place) }
 {}
 
 /// In a legal history no page changes hands while a translation of any hart names it.
