@@ -1,5 +1,6 @@
 -- What a hart holds keeps fitting, whatever other harts do.
 use Rattle.cove_base.specs.HartLines.{next_line}
+use Rattle.cove_base.specs.HartPlaces.{IsPlace}
 use Rattle.cove_base.specs.HartValues.{HartValue, after_walk, hosts_after}
 use Rattle.cove_base.specs.Rings.{found, keep_last, ring_room}
 use Rattle.cove_base.specs.Scripts.{ScriptValue}
@@ -9,15 +10,17 @@ use Rattle.cove_base.specs.declared.events.Walked.{Walked}
 use Rattle.cove_base.specs.declared.numbers.Page.{Page}
 use Rattle.cove_base.specs.declared.walks.Noted.{Noted}
 use Rattle.cove_base.specs.declared.walks.Target.{Target}
-use Rattle.cove_model.proofs.AtTheEnd.{after_push, ended_other, tlb_other}
+use Rattle.cove_model.proofs.AtTheEnd.{after_push, ended_other, ended_own, tlb_other, tlb_same}
 use Rattle.cove_model.proofs.Playing.{was_longer, was_now}
-use Rattle.cove_model.specs.Fits.{Fits, IsSought, UnusedFits, WalkFits, ring_of, walked_ring}
+use Rattle.cove_model.proofs.Soundness.{board_of}
+use Rattle.cove_model.specs.Fits.{Fits, IsSought, UnusedFits, WalkFits, after_own, ring_of, walked_ring}
 use Rattle.cove_model.specs.Histories.{after}
 use Rattle.cove_model.specs.Owners.{has, is_host, page_at}
 use Rattle.cove_model.specs.Played.{noted, walked}
 use Rattle.cove_model.specs.States.{ended_by}
+use Rattle.cove_model.specs.Steps.{after_event}
 use Rattle.cove_model.specs.Tlbs.{Tlb, filled, tlb}
-use Rattle.std.proofs.Common.{Bool, List, None, Option, Some, [], ap, cond, drop, eqb, eqb-true, false, find, length, map, option_map, refl, sym, true, ℕ, ◌++◌, ◌-◌, ◌||◌, ◌∙◌, ◌∷◌, ◌≡◌}
+use Rattle.std.proofs.Common.{Bool, List, None, Option, Some, [], ap, arith, cond, drop, eqb, eqb-true, false, find, length, map, option_map, refl, sym, true, ℕ, ◌++◌, ◌+◌, ◌-◌, ◌||◌, ◌∙◌, ◌∷◌, ◌≡◌}
 use Rattle.std.proofs.lemmas.List.{drop-map, length-map, map-append}
 use Rattle.cove_base.specs.declared.walks.Target.TheVariants as targets
 use Rattle.cove_base.specs.declared.events.Walked.TheVariants as walks
@@ -53,9 +56,6 @@ fits_other script H e held ne fits = record {
 }
 
 -- ---- a walk of the hart's own
-
-same_page : (page : Page) → (record { 0 = page.0 }) ≡ page
-same_page page = refl
 
 pub fits_found : (script : ScriptValue) (H : List Entry) (held : HartValue) (p : Page) → Fits script H held → held.walked ≡ None → IsSought script H held.hart p.0 → is_host (page_at (after script H).pages p.0) ≡ true → Fits script H (after_walk held (targets.Host p) (walks.Found p))
 fits_found script H held p fits none sought host = record {
@@ -99,3 +99,33 @@ ring_finds_page (q ∷ pages) p = go (eqb q p) refl (ring_finds_page pages p)
         as_page : ℕ → Page
         as_page k = record { 0 = k }
     go false e rest = rest
+
+-- ---- an entry of the hart's own
+
+-- after an entry of its own a hart has ended one more line, has no walk, and its ring is what the entry leaves
+pub fits_entered : (script : ScriptValue) (H : List Entry) (e : Entry) (held : HartValue) (place : ℕ) → Fits script H held → e.hart.0 ≡ held.hart → IsPlace script held.hart (held.ended + 1) place → Fits script (H ++ e ∷ []) (after_own script H e held place)
+fits_entered script H e held place fits same stands =
+    let S = after script H in
+    let size = (board_of script H).same_lists in
+    let board = fits.on_board in
+    let step = ap (λ T. ended_by T held.hart) (after_push script H e) ∙ ap (λ k. ended_by (after_event S k e.event) held.hart) same ∙ ended_own S held.hart e.event (omega arith) in
+    record {
+      on_board = fits.on_board;
+      counts = ap (λ n. n + 1) fits.counts ∙ sym step;
+      stands = stands;
+      ring = ap (λ (t : Tlb). ring_of t.pages) (sym (tlb_same script H e held.hart same));
+      walk = tt;
+    }
+
+-- a ring without an unused walk that found its page is the hart's translations
+pub ring_plain : (script : ScriptValue) (H : List Entry) (held : HartValue) → Fits script H held → held.walked ≡ None → held.hosts ≡ ring_of (tlb script H held.hart).pages
+ring_plain script H held fits none = fits.ring ∙ ap (walked_ring (ring_of (tlb script H held.hart).pages)) none
+
+pub ring_missing : (script : ScriptValue) (H : List Entry) (held : HartValue) (p : Page) (word : ℕ) → Fits script H held → held.walked ≡ Some (record { target = targets.Host p; walked = walks.Missing word }) → held.hosts ≡ ring_of (tlb script H held.hart).pages
+ring_missing script H held p word fits missing = fits.ring ∙ ap (walked_ring (ring_of (tlb script H held.hart).pages)) missing
+
+-- with one, it is the translations after the success by that walk
+pub ring_found : (script : ScriptValue) (H : List Entry) (held : HartValue) (p : Page) → Fits script H held → held.walked ≡ Some (record { target = targets.Host p; walked = walks.Found p }) → held.hosts ≡ ring_of (filled Walk p.0 (tlb script H held.hart).pages)
+ring_found script H held p fits found' =
+    fits.ring ∙ ap (walked_ring (ring_of (tlb script H held.hart).pages)) found'
+    ∙ sym (ring_filled (tlb script H held.hart).pages p.0)

@@ -1,22 +1,21 @@
 -- Each line that the grammar accepts keeps the limits of a script.
-use Rattle.std.proofs.Common.{◌≡◌, ℕ, ◌+◌, ◌^◌, ◌<◌, ◌≤◌, Bool, true, false, cond, ◌&&◌, ◌||◌, not, nat_le, nat_lt, List, [], ◌∷◌, ◌++◌, length, map, Option, Some, None, is_none, Result, Ok, Err, refl, sym, ap, subst, ◌∙◌, arith}
+use Rattle.std.proofs.Common.{◌≡◌, ℕ, ◌+◌, ◌^◌, ◌<◌, ◌≤◌, Bool, true, false, cond, ◌&&◌, not, nat_le, nat_lt, List, [], ◌∷◌, ◌++◌, length, map, Option, Some, None, Result, Ok, Err, refl, subst, ◌∙◌, arith}
 use Rattle.std.specs.List.{list_all}
 use Rattle.std.specs.Option.{option_map_or}
-use Rattle.std.proofs.lemmas.Bool.{not-false, and_parts, and_from, or_parts, leb-true, le-leb, lt-ltb}
+use Rattle.std.proofs.lemmas.Bool.{not-false, and_parts, and_from, leb-true, le-leb, lt-ltb}
 use Rattle.std.proofs.lemmas.List.{append-nil}
 use Rattle.std.proofs.lemmas.List.Folds.{list_all-append}
-use Rattle.cove_base.specs.declared.limits.TheConstants.{PAGE_LIMIT, HART_LIMIT, FILE_LIMIT, KEY_LIMIT, PHASE_LIMIT}
+use Rattle.cove_base.specs.declared.limits.TheConstants.{PAGE_LIMIT, KEY_LIMIT, PHASE_LIMIT}
 use Rattle.cove_base.specs.declared.faults.Kind.{Kind}
 use Rattle.cove_base.specs.declared.faults.Kind.TheVariants.{NotAscii, BadHeader, UnknownWord, BadNumber, WrongCount, OutOfBoard}
 use Rattle.cove_base.specs.declared.scripts.Line.{Line}
 use Rattle.cove_base.specs.declared.scripts.ScriptLine.{ScriptLine}
-use Rattle.cove_base.specs.declared.scripts.Fill.{Fill}
 use Rattle.cove_base.specs.Text.{text_words}
 use Rattle.cove_base.specs.Scripts.{is_within_limits, is_fill, is_script_line, is_line_within, phases_rise_from}
 use Rattle.cove_model.specs.declared.readings.Place.{Place}
 use Rattle.cove_model.specs.declared.readings.Place.TheVariants.{Start, Setup, Body, After}
 use Rattle.cove_model.specs.declared.readings.Reading.{Reading}
-use Rattle.cove_model.specs.Grammar.{Word, is_ascii, is_remark, is_in_setup, value, bytes_of, is_number, is_hex, are_numbers, line_of, Content, BoardLine, KeyLine, FillLine, PhaseLine, TurnsLine, EndLine, HartAlone, HartLine, Unknown, content_of, is_bad_header, is_unknown, has_bad_number, has_wrong_count, is_out_of_board, is_before_board, is_board, script_lines, after, judged, words_read, line_read, opening_reading, script_in}
+use Rattle.cove_model.specs.Grammar.{Word, is_ascii, is_remark, is_in_setup, value, is_hex, line_of, Content, BoardLine, KeyLine, FillLine, PhaseLine, TurnsLine, EndLine, HartAlone, HartLine, Unknown, content_of, is_bad_header, is_unknown, has_bad_number, has_wrong_count, is_out_of_board, is_before_board, is_board, script_lines, after, judged, words_read, line_read, opening_reading, script_in}
 
 -- ---- what a reading keeps
 

@@ -60,10 +60,6 @@ has_below n h lt = has_range 0 n h (omega arith) (omega arith)
 pub below_has : (n h : ℕ) → has h (harts_below n) ≡ true → h < n
 below_has n h e = let q = range_has 0 n h e in omega arith
 
-pub has_nil : (n : ℕ) (ns : List ℕ) → ns ≡ [] → has n ns ≡ true → ⊥
-has_nil n [] e h = cc
-has_nil n (x ∷ xs) e h = cc
-
 pub has_append : (n : ℕ) (xs ys : List ℕ) → has n (xs ++ ys) ≡ true → (has n xs ≡ true) ⊎ (has n ys ≡ true)
 has_append n [] ys e = inr e
 has_append n (x ∷ xs) ys e = ⊎_elim

@@ -3,22 +3,17 @@ use Rattle.cove_base.specs.Scripts.{ScriptValue}
 use Rattle.cove_base.specs.declared.calls.HostCall.TheVariants.{Convert, GlobalFence, Info, LocalFence, Reclaim}
 use Rattle.cove_base.specs.declared.events.Entry.{Entry}
 use Rattle.cove_base.specs.declared.events.How.TheVariants.{Hit, Walk}
-use Rattle.cove_base.specs.declared.statuses.Reply.{Reply}
-use Rattle.cove_base.specs.declared.statuses.Status.{Status}
 use Rattle.cove_base.specs.declared.statuses.Status.TheVariants.{InvalidAddress, InvalidParam, NotSupported, Success}
 use Rattle.cove_model.specs.Cached.{IsCached}
 use Rattle.cove_model.specs.Effects.{state_after}
-use Rattle.cove_model.specs.Examples.{board, call, during_a_fence, during_a_fence_history, faulted, load, loaded, said, stale, stale_history, text, there_and_back, there_and_back_history}
+use Rattle.cove_model.specs.Examples.{board, call, during_a_fence, during_a_fence_history, faulted, fresh, load, loaded, refused, said, stale, stale_history, text, there_and_back, there_and_back_history}
 use Rattle.cove_model.specs.Histories.{Legal, after, own}
 use Rattle.cove_model.specs.Owners.{is_host, page_at, zeros}
 use Rattle.cove_model.specs.Played.{played}
 use Rattle.cove_model.specs.Refusals.{refusal}
 use Rattle.cove_model.specs.Reports.{report}
-use Rattle.cove_model.specs.States.{State, opening, opening_words}
-use Rattle.std.proofs.Common.{List, None, Option, Some, [], ap, codes, drop, refl, slice_index, sym, take, true, true≢false, ℕ, ◌++◌, ◌∙◌, ◌∷◌, ◌≡◌}
-
-abbrev refused : Status → Option Reply
-refused status = Some (record { status = status; value = 0 })
+use Rattle.cove_model.specs.States.{opening_words}
+use Rattle.std.proofs.Common.{List, None, [], ap, codes, drop, refl, slice_index, sym, take, true, true≢false, ℕ, ◌++◌, ◌∙◌, ◌∷◌, ◌≡◌}
 
 -- ---- a page goes to the monitor and back
 
@@ -46,9 +41,6 @@ pub nothing_report : report [] ≡ text (codes "end 0" ∷ [])
 nothing_report = refl
 
 -- ---- the order of checks, and the end of the memory
-
-abbrev fresh : State
-fresh = opening (board 1 [] [] [])
 
 pub misaligned : refusal fresh 0 (Convert 0x4001 1) ≡ refused InvalidAddress
 misaligned = refl

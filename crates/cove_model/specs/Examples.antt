@@ -1,5 +1,5 @@
 -- Scripts and histories to read: what the definitions give of them is proved by computing it.
-use Rattle.std.specs.Prelude.{ℕ, List, [], ◌∷◌, flat_map}
+use Rattle.std.specs.Prelude.{Option, Some, ℕ, List, [], ◌∷◌, flat_map}
 use Rattle.cove_base.specs.Scripts.{ScriptValue}
 use Rattle.cove_base.specs.declared.calls.HostCall.{HostCall}
 use Rattle.cove_base.specs.declared.calls.HostCall.TheVariants.{Convert, GlobalFence, LocalFence, Reclaim}
@@ -10,10 +10,12 @@ use Rattle.cove_base.specs.declared.events.How.TheVariants.{Walk}
 use Rattle.cove_base.specs.declared.scripts.Fill.{Fill}
 use Rattle.cove_base.specs.declared.scripts.Line.TheVariants as lines
 use Rattle.cove_base.specs.declared.scripts.ScriptLine.{ScriptLine}
+use Rattle.cove_base.specs.declared.statuses.Reply.{Reply}
 use Rattle.cove_base.specs.declared.statuses.Status.{Status}
 use Rattle.cove_base.specs.declared.statuses.Status.TheVariants.{Success, AlreadyStarted, InvalidAddress}
 use Rattle.cove_model.specs.Played.{entry_by}
 use Rattle.cove_model.specs.Reports.{ended_line}
+use Rattle.cove_model.specs.States.{State, opening}
 
 -- a script of a board of 16 pages
 abbrev pub board : (harts : ℕ) → List Fill → List ScriptLine → (turns : List ℕ) → ScriptValue
@@ -36,6 +38,14 @@ loaded hart addr how value = entry_by hart (events.Load addr how value)
 
 abbrev pub faulted : (hart addr : ℕ) → Entry
 faulted hart addr = entry_by hart (events.LoadFault addr)
+
+-- a board of one hart before any entry
+abbrev pub fresh : State
+fresh = opening (board 1 [] [] [])
+
+-- a refusal with no value
+abbrev pub refused : Status → Option Reply
+refused status = Some (record { status = status; value = 0 })
 
 -- a page goes to the monitor and back
 abbrev pub there_and_back : ScriptValue

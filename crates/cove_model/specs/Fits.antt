@@ -1,5 +1,5 @@
 -- What one hart holds fits a history. Neither the shared words nor any other hart is looked at.
-use Rattle.std.specs.Prelude.{◌≡◌, ◌<◌, ℕ, false, List, map, Option, Some, None}
+use Rattle.std.specs.Prelude.{◌≡◌, ◌<◌, ◌+◌, ℕ, false, List, map, Option, Some, None}
 use Rattle.cove_base.specs.HartLines.{next_line}
 use Rattle.cove_base.specs.HartPlaces.{IsPlace}
 use Rattle.cove_base.specs.HartValues.{HartValue, accessed_page, hosts_after}
@@ -16,7 +16,7 @@ use Rattle.cove_model.specs.Cached.{WasHost}
 use Rattle.cove_model.specs.Histories.{after}
 use Rattle.cove_model.specs.Owners.{has}
 use Rattle.cove_model.specs.States.{ended_by}
-use Rattle.cove_model.specs.Tlbs.{tlb}
+use Rattle.cove_model.specs.Tlbs.{tlb, renewed}
 
 -- host pages as a ring has them, each under its own number
 abbrev pub ring_of : List ℕ → List (ℕ × Page)
@@ -54,3 +54,13 @@ pub record Fits (script : ScriptValue) (history : List Entry) (held : HartValue)
   pub stands : IsPlace script held.hart held.ended held.place
   pub ring : held.hosts ≡ walked_ring (ring_of (tlb script history held.hart).pages) held.walked
   pub walk : UnusedFits script history held.hart held.walked
+
+-- a hart after an entry of its own: it has ended one more line, and no walk is left
+abbrev pub after_own : ScriptValue → (history : List Entry) → Entry → HartValue → (place : ℕ) → HartValue
+after_own script history entry held place = record {
+  hart = held.hart;
+  ended = held.ended + 1;
+  place = place;
+  hosts = ring_of (renewed (after script history) (tlb script history held.hart) entry.event).pages;
+  walked = None;
+}

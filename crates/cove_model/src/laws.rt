@@ -1,10 +1,12 @@
 //! The laws of the definitions, each on a function with an empty body: its clauses say what holds of every
 //! script, state and history.
 
-ghost use Rattle.std.specs.Prelude.{◌≡◌, ◌<◌, ◌≤◌, ◌↔◌, ℕ, List, [], ◌∷◌, ◌++◌, length, Some, None, true, false, IsTrue, codes};
+ghost use Rattle.std.specs.Prelude.{◌≡◌, ◌+◌, ◌<◌, ◌≤◌, ◌↔◌, ℕ, List, [], ◌∷◌, ◌++◌, length, Some, None, true, false, IsTrue, codes};
+ghost use Rattle.cove_base.specs.HartPlaces.{IsPlace};
 ghost use Rattle.cove_base.specs.HartValues.{HartValue, after_walk};
 ghost use Rattle.cove_base.specs.Scripts.{ScriptValue, is_within_limits};
 ghost use Rattle.cove_base.specs.declared.calls.HostCall.{HostCall};
+ghost use Rattle.cove_base.specs.declared.calls.HostCall.TheVariants.{Convert, Info};
 ghost use Rattle.cove_base.specs.declared.events.Entry.{Entry};
 ghost use Rattle.cove_base.specs.declared.events.Event.{Event};
 ghost use Rattle.cove_base.specs.declared.events.Event.TheVariants.{Call};
@@ -14,9 +16,11 @@ ghost use Rattle.cove_base.specs.declared.numbers.Page.{Page};
 ghost use Rattle.cove_base.specs.declared.scripts.Line.{Line};
 ghost use Rattle.cove_base.specs.declared.walks.Target.TheVariants.{Host};
 ghost use Rattle.cove_base.specs.declared.statuses.Reply.{Reply};
+ghost use Rattle.cove_base.specs.declared.statuses.Status.TheVariants.{InvalidAddress, InvalidParam, NotSupported};
 ghost use Rattle.cove_model.specs.Cached.{IsCached, IsQuiet, IsQuietAt, IsReached, WasHost};
-ghost use Rattle.cove_model.specs.Examples.{board, during_a_fence, during_a_fence_history, faulted, load, stale, stale_history, text, there_and_back, there_and_back_history};
-ghost use Rattle.cove_model.specs.Fits.{Fits, IsSought};
+ghost use Rattle.cove_model.specs.Examples.{board, during_a_fence, during_a_fence_history, faulted, fresh, load, refused, stale, stale_history, text, there_and_back, there_and_back_history};
+ghost use Rattle.cove_model.specs.Fits.{Fits, IsSought, after_own};
+ghost use Rattle.cove_model.specs.Effects.{state_after};
 ghost use Rattle.cove_model.specs.Follows.{Begins, Follows, told};
 ghost use Rattle.cove_model.specs.Histories.{Legal, after, after_entry, own};
 ghost use Rattle.cove_model.specs.Offers.{Next, NoneEarlier, first_behind, offer};
@@ -107,8 +111,8 @@ pub fn translations_are_usable()
         → may_use hart (page_at (after script history).pages p) ≡ true }
 {}
 
-/// What a hart holds keeps fitting: under each entry of another hart, and after a walk of its own for its next
-/// line, found where the page is the host's.
+/// What a hart holds keeps fitting: under each entry of another hart, after a walk of its own for its next line,
+/// which finds the page where it is the host's, and after an entry of its own.
 pub fn harts_keep_fitting()
     ensures others { (script : ScriptValue) (history : List Entry) (entry : Entry) (held : HartValue)
         → (entry.hart.0 ≡ held.hart → ⊥) → Fits script history held → Fits script (history ++ entry ∷ []) held }
@@ -119,6 +123,9 @@ pub fn harts_keep_fitting()
     ensures missing { (script : ScriptValue) (history : List Entry) (held : HartValue) (p : Page) (word : ℕ)
         → Fits script history held → held.walked ≡ None → IsSought script history held.hart p.0
         → Fits script history (after_walk held (Host p) (Missing word)) }
+    ensures entered { (script : ScriptValue) (history : List Entry) (entry : Entry) (held : HartValue) (place : ℕ)
+        → Fits script history held → entry.hart.0 ≡ held.hart → IsPlace script held.hart (held.ended + 1) place
+        → Fits script (history ++ entry ∷ []) (after_own script history entry held place) }
 {}
 
 /// In a legal history no page changes hands while a translation of any hart names it.
@@ -164,6 +171,18 @@ pub fn one_hart_plays_its_answers()
     ensures { (limit : ℕ) (script : ScriptValue)
         → IsTrue (is_within_limits script) → script.harts ≡ 1 → AreCalls script → length script.lines ≤ limit
         → played limit script ≡ alone (opening script) script.lines }
+{}
+
+/// The first check that fails answers: on a fresh board of 16 pages, and for a page that is converted twice.
+pub fn first_checks_answer()
+    ensures misaligned { refusal fresh 0 (Convert 0x4001 1) ≡ refused InvalidAddress }
+    ensures no_pages { refusal fresh 0 (Convert 0x4000 0) ≡ refused InvalidParam }
+    ensures count_first { refusal fresh 0 (Convert 0x4001 17) ≡ refused InvalidParam }
+    ensures last_page { refusal fresh 0 (Convert 0xf000 1) ≡ None }
+    ensures past_memory { refusal fresh 0 (Convert 0x10000 1) ≡ refused InvalidAddress }
+    ensures over_the_end { refusal fresh 0 (Convert 0xe000 3) ≡ refused InvalidAddress }
+    ensures twice { refusal (state_after fresh 0 (Convert 0x4000 1)) 0 (Convert 0x4000 1) ≡ refused InvalidAddress }
+    ensures not_built { refusal fresh 0 Info ≡ refused NotSupported }
 {}
 
 /// What the definitions give of three scripts: the histories that they play, and the journals of two of them.
