@@ -3,6 +3,8 @@
 //! `cove_model/specs`' `entry_line`; `line` writes it (`text`), and `parse_line` reads it back. Nothing here takes
 //! memory.
 
+#[cfg(test)]
+mod tests;
 mod writing;
 
 pub use writing::{last_line, line};

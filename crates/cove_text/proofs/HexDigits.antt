@@ -132,7 +132,7 @@ hex_of-read word i bytes even past so_far =
 
 -- ---- what was written is read back
 
-list_all-hex_text : (bytes : List ℕ) → ((i : ℕ) → get_or bytes i 0 < 256) → list_all is_hex_digit (hex_text bytes) ≡ true
+pub list_all-hex_text : (bytes : List ℕ) → ((i : ℕ) → get_or bytes i 0 < 256) → list_all is_hex_digit (hex_text bytes) ≡ true
 list_all-hex_text [] small = refl
 list_all-hex_text (byte ∷ bytes) small =
     let fits : byte < 256 = small 0 in

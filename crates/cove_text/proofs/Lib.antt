@@ -1,3 +1,4 @@
 pub mod HexDigits
+pub mod JoinedWords
 pub mod Numerals
 pub mod Splits

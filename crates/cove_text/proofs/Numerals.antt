@@ -96,6 +96,11 @@ list_all-written (suc divisions) base n two small enough =
           (and_from _ _ (list_all-written divisions base (n / base) two small (omega arith)) (one_digit base (n % base) below small))
     ]
 
+-- and each of them is a digit
+pub list_all-shortest_digits : (base n : ℕ) → 2 ≤ base → base ≤ 16
+    → list_all (λ digit. is_digit digit base) (map digit_char (shortest_digits base n)) ≡ true
+list_all-shortest_digits base n two small = list_all-written n base n two small (omega arith)
+
 length-digits_within : (divisions base n k : ℕ) → 2 ≤ base → n < base ^ suc k
     → length (digits_within divisions base n) ≤ suc k
 length-digits_within zero base n k two small = omega arith
