@@ -13,9 +13,9 @@ mod quotes;
 mod ranges;
 mod scripts;
 mod statuses;
+mod stores;
 #[cfg(test)]
 mod tests;
-mod stores;
 mod walks;
 mod words;
 
