@@ -4,7 +4,29 @@ use crate::{
 };
 use cove_base::{Bytes, NoMemory, Turns};
 use std::alloc::Global;
+use std::io;
+use std::io::{ErrorKind, Read, Write};
 use std::test::Fail;
+
+// A device that is broken.
+#[derive(Drop)]
+struct Broken;
+
+impl Read for Broken {
+    fn read(&mut self, _buf: &mut [u8]) -> io::Result<usize> {
+        Err(io::Error::from(ErrorKind::Other))
+    }
+}
+
+impl Write for Broken {
+    fn write(&mut self, _buf: &[u8]) -> io::Result<usize> {
+        Err(io::Error::from(ErrorKind::Other))
+    }
+
+    fn flush(&mut self) -> io::Result<()> {
+        Err(io::Error::from(ErrorKind::Other))
+    }
+}
 
 fn bytes_of(alloc: Global, items: &[u8]) -> Result<Bytes, NoMemory> {
     let mut bytes = Bytes::new(alloc);
@@ -82,5 +104,16 @@ fn readers_and_writers_of_std(rt: HostRuntime) -> Result<(), Fail> {
         assert_eq!(rt; sink.flush(), Ok(()));
     }
     assert_eq!(rt; room, *b"abcd");
+    Ok(())
+}
+
+#[test]
+fn the_faults_of_a_broken_device(rt: HostRuntime) -> Result<(), Fail> {
+    let mut source = ReadSource::new(Broken);
+    let read = read_all(rt.alloc(), &mut source, 9).map(|bytes| bytes.len());
+    assert_eq!(rt; read, Err(ReadError::Failed));
+    let mut sink = WriteSink::new(Broken);
+    assert_eq!(rt; write_all(&mut sink, b"ab"), Err(Failed));
+    assert_eq!(rt; sink.flush(), Err(Failed));
     Ok(())
 }
