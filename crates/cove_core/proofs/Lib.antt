@@ -1,0 +1,4 @@
+pub mod RangeLemmas
+pub mod CallLemmas
+pub mod PageCallLemmas
+pub mod FenceLemmas
