@@ -1,4 +1,4 @@
--- Convert and reclaim, over the words and the range that was found.
+-- What convert and reclaim answer and leave, by the tests that were made of their pages.
 use Rattle.std.proofs.Common.{◌≡◌, ℕ, zero, suc, ◌+◌, ◌/◌, ◌<◌, ◌≤◌, Bool, true, false, not, List, [], ◌∷◌, length, get_or, Option, Ok, Err, refl, sym, ap, subst, ◌∙◌, inl, inr, arith}
 use Rattle.cove_base.proofs.StoreLemmas.{get_or-fills_other}
 use Rattle.cove_base.specs.Guards.{Guard}
@@ -91,7 +91,7 @@ free_by_floor harts numbers floor word least (inl is) = inl is
 free_by_floor harts numbers floor word least (inr is) =
     inr (is.0, is.2, λ k on. let low : floor ≤ numbers k = least k on in let less : is.0 < floor = is.1 in omega arith)
 
--- a fact of the found range is one of the named pages
+-- Convert and reclaim of a hart, on words that are ready.
 module _ (pages harts hart : ℕ) (words : List ℕ) (frames : List (List ℕ)) (ready : IsReady pages harts hart words frames) (base n : ℕ) where
   -- the range has a fault
   module _ (fault : RangeFault) (at : range_at base n pages ≡ Err fault) where

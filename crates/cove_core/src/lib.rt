@@ -6,6 +6,8 @@
 
 mod calls;
 mod ground;
+#[cfg(test)]
+mod tests;
 
 pub use calls::{call, convert_pages, global_fence, local_fence, reclaim_pages};
 pub use ground::Ground;
