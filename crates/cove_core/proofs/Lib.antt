@@ -1,0 +1,5 @@
+pub mod RangeLemmas
+pub mod BoardLemmas
+pub mod CallLemmas
+pub mod PageCallLemmas
+pub mod FenceLemmas

@@ -1,0 +1,20 @@
+-- The answers of the calls on owners.
+use Rattle.cove_base.specs.declared.ranges.RangeFault.{RangeFault}
+use Rattle.cove_base.specs.declared.ranges.RangeFault.TheVariants.{BadCount, Unaligned, Outside}
+use Rattle.cove_base.specs.declared.statuses.Reply.{Reply}
+use Rattle.cove_base.specs.declared.statuses.Status.{Status}
+use Rattle.cove_base.specs.declared.statuses.Status.TheVariants.{Success, InvalidParam, InvalidAddress}
+
+-- the answer of an accepted call
+abbrev pub accepted : Reply
+accepted = record { status = Success; value = 0 }
+
+-- a refusal with no value beside its status
+abbrev pub refused_with : Status → Reply
+refused_with status = record { status = status; value = 0 }
+
+-- the status of a call whose range has a fault
+abbrev pub status_of : RangeFault → Status
+status_of BadCount = InvalidParam
+status_of Unaligned = InvalidAddress
+status_of Outside = InvalidAddress

@@ -1,0 +1,124 @@
+ghost use Rattle.std.specs.Prelude.{◌≡◌, ◌+◌, ◌<◌, ◌≤◌};
+ghost use Rattle.cove_base.specs.declared.limits.TheConstants.{ENTRY_LIMIT};
+ghost use Rattle.cove_model.specs.States.{State};
+ghost use Rattle.cove_model.specs.WordLaws.{Stand};
+ghost use Rattle.cove_model.specs.WordsStand.{FramesStand, epoch_in};
+
+use crate::{Ground, call};
+use cove_base::{HartId, HostCall, Plain, Reply, Status, all_words};
+use cove_mem::Memory;
+use std::test::Fail;
+
+fn hart_of(second: bool) -> HartId
+    ensures { result.0 < 2 }
+{
+    if second { HartId(1) } else { HartId(0) }
+}
+
+// The answer to a call of one of two harts, on a board of 16 pages.
+fn answer(w: &mut Plain, g: &mut Ground, second: bool, c: HostCall) -> Reply
+    requires board { (g.old.pages ≡ 16) × (g.old.harts ≡ 2) }
+    requires stands { (S : State) × Stand 16 2 w.old S × FramesStand g.old.memory S }
+    requires room { epoch_in 16 w.old < ENTRY_LIMIT }
+    ensures board { (g.new.pages ≡ 16) × (g.new.harts ≡ 2) }
+    ensures stands { (S : State) × Stand 16 2 w.new S × FramesStand g.new.memory S }
+    ensures epoch { epoch_in 16 w.new ≤ epoch_in 16 w.old + 1 }
+{
+    call(w, g, hart_of(second), c)
+}
+
+#[test]
+fn calls_of_two_harts_are_answered_in_turn(rt: HostRuntime) -> Result<(), Fail> {
+    let alloc = rt.alloc();
+    let mut words = Plain::new(alloc, all_words(16, 2))?;
+    let mut ground = Ground {
+        memory: Memory::new(alloc, 16)?,
+        pages: 16,
+        harts: 2,
+    };
+    let table: [(bool, HostCall, Status, u64); 15] = [
+        (
+            false,
+            HostCall::Convert { base: 0x4001, n: 1 },
+            Status::InvalidAddress,
+            0,
+        ),
+        (
+            false,
+            HostCall::Convert { base: 0x4000, n: 0 },
+            Status::InvalidParam,
+            0,
+        ),
+        (
+            false,
+            HostCall::Convert {
+                base: 0x4001,
+                n: 17,
+            },
+            Status::InvalidParam,
+            0,
+        ),
+        (
+            false,
+            HostCall::Convert { base: 0xf000, n: 1 },
+            Status::Success,
+            0,
+        ),
+        (
+            false,
+            HostCall::Convert {
+                base: 0x10000,
+                n: 1,
+            },
+            Status::InvalidAddress,
+            0,
+        ),
+        (
+            false,
+            HostCall::Convert { base: 0xe000, n: 3 },
+            Status::InvalidAddress,
+            0,
+        ),
+        (
+            false,
+            HostCall::Convert { base: 0x4000, n: 1 },
+            Status::Success,
+            0,
+        ),
+        (
+            false,
+            HostCall::Convert { base: 0x4000, n: 1 },
+            Status::InvalidAddress,
+            0,
+        ),
+        (false, HostCall::GlobalFence, Status::Success, 0),
+        (
+            false,
+            HostCall::Convert { base: 0x5000, n: 1 },
+            Status::Success,
+            0,
+        ),
+        (false, HostCall::GlobalFence, Status::AlreadyStarted, 1),
+        (true, HostCall::LocalFence, Status::Success, 0),
+        (
+            false,
+            HostCall::Reclaim { base: 0x4000, n: 1 },
+            Status::Success,
+            0,
+        ),
+        (
+            false,
+            HostCall::Reclaim { base: 0x5000, n: 1 },
+            Status::InvalidAddress,
+            0,
+        ),
+        (false, HostCall::Info, Status::NotSupported, 0),
+    ];
+    for (second, c, status, value) in table {
+        assert_eq!(rt;
+            answer(&mut words, &mut ground, second, c),
+            Reply { status, value }
+        );
+    }
+    Ok(())
+}
