@@ -1,10 +1,13 @@
 #![tactic(auto)]
 //! The journal both ways: the line of an entry, the entry of a line, and the last line. A line is
-//! `cove_model/specs`' `entry_line`; `line` writes it (`text`), and `parse_line` reads it back. Nothing here takes
-//! memory.
+//! `cove_model/specs`' `entry_line`; `line` writes it (`text`), and `parse_line` accepts exactly the lines of entries
+//! that have one (`lines`), and finds every such entry (`finds`). Nothing here takes memory.
 
+mod parsing;
+mod reading;
 #[cfg(test)]
 mod tests;
 mod writing;
 
+pub use parsing::parse_line;
 pub use writing::{last_line, line};

@@ -1,0 +1,3 @@
+pub mod CallsRead
+pub mod HexRead
+pub mod LinesRead

@@ -1,0 +1,313 @@
+ghost use Rattle.std.specs.Prelude.{◌≡◌, option_map};
+ghost use Rattle.cove_journal.specs.Reading.{act_of, answer_of, arguments_of, call_event_of, entry_of, event_of, exec_of, exit_of, fault_of, fetch_of, guest_of, how_of, load_of, memory_word_of, quote_of, quoted_of, status_of, store_of, trap_of};
+ghost use Rattle.cove_base.specs.Text.{text_words};
+
+use arrayvec::ArrayVec;
+use cove_base::{Entry, Event, Exit, Gpn, GuestAct, HartId, How, Quote, Reply, Status};
+use cove_text::{WordIter, call_of, read_number, split_words};
+use hex::FromHex;
+
+fn read_how(word: &[u8]) -> Option<How>
+    ensures { result ≡ how_of word.now }
+{
+    if word == b"hit".as_slice() {
+        return Some(How::Hit);
+    }
+    if word == b"walk".as_slice() {
+        return Some(How::Walk);
+    }
+    None
+}
+
+fn read_status(word: &[u8]) -> Option<Status>
+    ensures { result ≡ status_of word.now }
+{
+    if word == b"0".as_slice() {
+        return Some(Status::Success);
+    }
+    if word == b"-1".as_slice() {
+        return Some(Status::Failed);
+    }
+    if word == b"-2".as_slice() {
+        return Some(Status::NotSupported);
+    }
+    if word == b"-3".as_slice() {
+        return Some(Status::InvalidParam);
+    }
+    if word == b"-4".as_slice() {
+        return Some(Status::Denied);
+    }
+    if word == b"-5".as_slice() {
+        return Some(Status::InvalidAddress);
+    }
+    if word == b"-6".as_slice() {
+        return Some(Status::AlreadyAvailable);
+    }
+    if word == b"-7".as_slice() {
+        return Some(Status::AlreadyStarted);
+    }
+    if word == b"-8".as_slice() {
+        return Some(Status::AlreadyStopped);
+    }
+    None
+}
+
+// A word of memory: 16 hex digits.
+fn read_memory_word(word: &[u8]) -> Option<u64>
+    ensures { result ≡ memory_word_of word.now }
+{
+    let bytes = <[u8; 8]>::from_hex(word).ok()?;
+    Some(u64::from_be_bytes(bytes))
+}
+
+fn read_answer(words: &mut WordIter<'_>) -> Option<Reply>
+    ensures { option_map (λ reply. (reply, words.new)) result ≡ answer_of words.old }
+{
+    let status = words.next()?;
+    let value = words.next()?;
+    Some(Reply {
+        status: read_status(status)?,
+        value: read_number(value)?,
+    })
+}
+
+fn read_act(words: &mut WordIter<'_>) -> Option<GuestAct>
+    ensures { option_map (λ act. (act, words.new)) result ≡ act_of words.old }
+{
+    let name = words.next()?;
+    if name == b"share".as_slice() {
+        let gpa = words.next()?;
+        let len = words.next()?;
+        return Some(GuestAct::Share {
+            gpa: read_number(gpa)?,
+            len: read_number(len)?,
+        });
+    }
+    if name == b"unshare".as_slice() {
+        let gpa = words.next()?;
+        let len = words.next()?;
+        return Some(GuestAct::Unshare {
+            gpa: read_number(gpa)?,
+            len: read_number(len)?,
+        });
+    }
+    if name == b"allow".as_slice() {
+        let id = read_number(words.next()?)?;
+        return Some(GuestAct::Allow { id });
+    }
+    if name == b"deny".as_slice() {
+        let id = read_number(words.next()?)?;
+        return Some(GuestAct::Deny { id });
+    }
+    if name == b"extend".as_slice() {
+        return Some(GuestAct::Extend);
+    }
+    if name == b"evidence".as_slice() {
+        return Some(GuestAct::Evidence);
+    }
+    if name == b"other".as_slice() {
+        return Some(GuestAct::Other);
+    }
+    None
+}
+
+fn read_load(words: &mut WordIter<'_>) -> Option<Event>
+    ensures { result ≡ load_of words.old }
+{
+    let addr = words.next()?;
+    let how = words.next()?;
+    let last = words.next()?;
+    let addr = read_number(addr)?;
+    if last == b"fault".as_slice() {
+        return Some(Event::LoadFault { addr });
+    }
+    Some(Event::Load {
+        addr,
+        how: read_how(how)?,
+        value: read_memory_word(last)?,
+    })
+}
+
+fn read_store(words: &mut WordIter<'_>) -> Option<Event>
+    ensures { result ≡ store_of words.old }
+{
+    let addr = words.next()?;
+    let value = words.next()?;
+    let how = words.next()?;
+    let last = words.next()?;
+    let addr = read_number(addr)?;
+    let value = read_number(value)?;
+    if last == b"fault".as_slice() {
+        return Some(Event::StoreFault { addr, value });
+    }
+    Some(Event::Store {
+        addr,
+        value,
+        how: read_how(how)?,
+    })
+}
+
+fn read_exec(words: &mut WordIter<'_>) -> Option<Event>
+    ensures { result ≡ exec_of words.old }
+{
+    match words.next() {
+        None => Some(Event::Exec),
+        Some(how) => Some(Event::Access {
+            how: read_how(how)?,
+        }),
+    }
+}
+
+fn read_fetch(words: &mut WordIter<'_>) -> Option<Event>
+    ensures { result ≡ fetch_of words.old }
+{
+    let how = read_how(words.next()?)?;
+    Some(Event::Fetch { how })
+}
+
+// A quote of 360 bytes.
+fn read_quote(word: &[u8]) -> Option<Quote>
+    ensures { result ≡ quote_of word.now }
+{
+    let bytes = <[u8; 360]>::from_hex(word).ok()?;
+    let mut quote = Quote::new();
+    for byte in &bytes {
+        quote.push(*byte);
+    }
+    Some(quote)
+}
+
+fn read_quoted(words: &mut WordIter<'_>) -> Option<Event>
+    ensures { result ≡ quoted_of words.old }
+{
+    let quote = read_quote(words.next()?)?;
+    Some(Event::Evidence { quote })
+}
+
+fn read_guest(words: &mut WordIter<'_>) -> Option<Event>
+    ensures { result ≡ guest_of words.old }
+{
+    let act = read_act(words)?;
+    let _equals = words.next()?;
+    let reply = read_answer(words)?;
+    match (act, reply.status) {
+        (GuestAct::Evidence, Status::Success) => read_quoted(words),
+        _ => Some(Event::Guest { act, reply }),
+    }
+}
+
+fn read_exit(words: &mut WordIter<'_>) -> Option<Exit>
+    ensures { result ≡ exit_of words.old }
+{
+    let name = words.next()?;
+    if name == b"fuel".as_slice() {
+        return Some(Exit::Fuel);
+    }
+    if name == b"kicked".as_slice() {
+        return Some(Exit::Kicked);
+    }
+    if name == b"wfi".as_slice() {
+        return Some(Exit::Wfi);
+    }
+    if name == b"fault".as_slice() {
+        return read_fault(words);
+    }
+    if name == b"trap".as_slice() {
+        return read_trap(words);
+    }
+    None
+}
+
+fn read_fault(words: &mut WordIter<'_>) -> Option<Exit>
+    ensures { result ≡ fault_of words.old }
+{
+    let cause = words.next()?;
+    let addr = words.next()?;
+    let cause = read_number(cause)?;
+    let addr = read_number(addr)?;
+    if cause >= 256 {
+        return None;
+    }
+    Some(Exit::Fault {
+        cause: cause as u8,
+        page: Gpn(addr / 4096),
+    })
+}
+
+fn read_trap(words: &mut WordIter<'_>) -> Option<Exit>
+    ensures { result ≡ trap_of words.old }
+{
+    let cause = read_number(words.next()?)?;
+    if cause >= 256 {
+        return None;
+    }
+    Some(Exit::Trap { cause: cause as u8 })
+}
+
+// Appends the numbers up to `=`, five at most.
+fn read_arguments(words: &mut WordIter<'_>, args: &mut ArrayVec<u64, 5>) -> Option<()>
+    ensures { option_map (λ _. (args.new.items, words.new)) result ≡ arguments_of args.old.items words.old }
+{
+    loop {
+        let word = words.next()?;
+        if word == b"=".as_slice() {
+            return Some(());
+        }
+        if args.is_full() {
+            return None;
+        }
+        args.push(read_number(word)?);
+    }
+}
+
+fn read_call(name: &[u8], words: &mut WordIter<'_>) -> Option<Event>
+    ensures { result ≡ call_event_of name.now words.old }
+{
+    let mut args = ArrayVec::<u64, 5>::new();
+    read_arguments(words, &mut args)?;
+    let call = call_of(name, args.as_slice())?;
+    let reply = read_answer(words)?;
+    Some(Event::Call { call, reply })
+}
+
+fn read_event(words: &mut WordIter<'_>) -> Option<Event>
+    ensures { result ≡ event_of words.old }
+{
+    let name = words.next()?;
+    if name == b"ld".as_slice() {
+        return read_load(words);
+    }
+    if name == b"sd".as_slice() {
+        return read_store(words);
+    }
+    if name == b"fetch".as_slice() {
+        return read_fetch(words);
+    }
+    if name == b"exec".as_slice() {
+        return read_exec(words);
+    }
+    if name == b"guest".as_slice() {
+        return read_guest(words);
+    }
+    if name == b"exit".as_slice() {
+        let exit = read_exit(words)?;
+        return Some(Event::Exit { exit });
+    }
+    read_call(name, words)
+}
+
+// The entry that the words of a line name, whatever their spelling.
+pub(crate) fn read_entry(bytes: &[u8]) -> Option<Entry>
+    ensures { result ≡ entry_of (text_words bytes.now) }
+{
+    let mut words = split_words(bytes);
+    let hart = read_number(words.next()?)?;
+    if hart >= 256 {
+        return None;
+    }
+    let event = read_event(&mut words)?;
+    Some(Entry {
+        hart: HartId(hart as u8),
+        event,
+    })
+}
