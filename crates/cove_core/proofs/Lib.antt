@@ -3,3 +3,10 @@ pub mod BoardLemmas
 pub mod CallLemmas
 pub mod PageCallLemmas
 pub mod FenceLemmas
+pub mod Behind
+pub mod Clearing
+pub mod Entering
+pub mod Events
+pub mod Making
+pub mod Performing
+pub mod ScriptLimits

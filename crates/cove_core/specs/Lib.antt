@@ -1,2 +1,6 @@
 pub mod Called
+pub mod Kept
+pub mod Made
+pub mod Reached
 pub mod Replies
+pub mod Stepped

@@ -1,13 +1,21 @@
 #![tactic(auto)]
-//! The monitor's core over the shared words: each call of the host, answered as the definitions say.
+//! The monitor's core over the shared words: each call of the host, and each entry of a hart, as the definitions say.
 //!
 //! A call is generic over the words, and needs of them one thing: that they allow every lawful store. Whatever
-//! state the words and frames stood for, the answer is that state's, and they stand for the state after it.
+//! state the words and frames stood for, the answer is that state's, and they stand for the state after it. The one
+//! theorem is the contract of [`event_step`]: it keeps a history legal and cached, its words, frames and progress
+//! standing for the state after it, and every hart fitting it. Its words are in specs/Kept, specs/Made and
+//! specs/Stepped. It stands on the laws of `cove_model`, and on the owners, fences, frames and rings below it.
 
+mod accesses;
 mod calls;
 mod ground;
+mod monitors;
+mod steps;
 #[cfg(test)]
 mod tests;
 
 pub use calls::{call, convert_pages, global_fence, local_fence, reclaim_pages};
 pub use ground::Ground;
+pub use monitors::{Mon, Progress};
+pub use steps::{Stepped, event_step};

@@ -1,0 +1,184 @@
+-- An entry that was made and counted leaves the history kept, and its hart fitting.
+use Rattle.std.proofs.Common.{◌≡◌, ℕ, ◌+◌, ◌<◌, ◌≤◌, ◌≢◌, List, [], ◌∷◌, ◌++◌, None, IsSome, get_or, set, length, inl, inr, refl, sym, subst, ap, ◌∙◌, arith, get_or-set_other, get_or-set_same, length-set}
+use Rattle.std.proofs.lemmas.Bool.{cases_eq}
+use Rattle.std.proofs.lemmas.List.{length_push}
+use Rattle.cove_base.specs.HartLines.{next_line}
+use Rattle.cove_base.specs.HartPlaces.{IsPlace}
+use Rattle.cove_base.specs.HartValues.{HartValue}
+use Rattle.cove_base.specs.Places.{count_word, epoch_word, all_words}
+use Rattle.cove_base.specs.Scripts.{ScriptValue}
+use Rattle.cove_base.specs.declared.events.Entry.{Entry}
+use Rattle.cove_base.specs.declared.events.Event.{Event}
+use Rattle.cove_core.specs.Kept.{IsKept, ProgressStands}
+use Rattle.cove_core.specs.Made.{IsCountable, IsPerformed}
+use Rattle.cove_core.specs.declared.monitors.Mon.{Mon}
+use Rattle.cove_model.proofs.AtTheEnd.{after_push, each_push, ended_other, ended_own, from_end, legal_push, tlb_same}
+use Rattle.cove_model.proofs.Beginning.{asked_line, due, replicate_zero}
+use Rattle.cove_model.proofs.BesideProofs.{count_leaves_words}
+use Rattle.cove_model.proofs.Soundness.{board_of}
+use Rattle.cove_model.specs.Cached.{IsReached}
+use Rattle.cove_model.specs.Fits.{Fits, UnusedFits, ring_of, walked_ring}
+use Rattle.cove_model.specs.Histories.{after}
+use Rattle.cove_model.specs.Played.{entry_by}
+use Rattle.cove_model.specs.States.{State, ended_by}
+use Rattle.cove_model.specs.Steps.{after_event, asked, done, end_line}
+use Rattle.cove_model.specs.Tlbs.{Tlb, renewed, tlb}
+use Rattle.cove_model.specs.WordLaws.{Stand}
+use Rattle.cove_model.specs.WordsStand.{FramesStand, epoch_in}
+
+-- ---- an ended line is no matter of words and frames
+
+pub stand_ended : (pages harts h : ℕ) (words : List ℕ) (S : State) → Stand pages harts words S → Stand pages harts words (end_line h S)
+stand_ended pages harts h words S old = record {
+  stands = record {
+    size = old.stands.size;
+    owners = record {
+      page_count = old.stands.owners.page_count;
+      hart_count = old.stands.owners.hart_count;
+      page = old.stands.owners.page;
+      unanswered = old.stands.owners.unanswered;
+    };
+    tables = old.stands.tables;
+    unused = old.stands.unused;
+    outside = old.stands.outside;
+  };
+  within = old.within;
+}
+
+pub frames_ended : (frames : List (List ℕ)) (h : ℕ) (S : State) → FramesStand frames S → FramesStand frames (end_line h S)
+frames_ended frames h S old = record { count = old.count; frame = old.frame }
+
+-- ---- the state after an entry
+
+module _ (script : ScriptValue) (H : List Entry) (h : ℕ) (event : Event) where
+  pub after_own : after script (H ++ entry_by h event ∷ []) ≡ after_event (after script H) h event
+  after_own = after_push script H (entry_by h event)
+
+  pub ended_after_own : h < script.harts → ended_by (after script (H ++ entry_by h event ∷ [])) h ≡ ended_by (after script H) h + 1
+  ended_after_own on =
+      let size = (board_of script H).same_lists in
+      ap (λ (T : State). ended_by T h) after_own ∙ ended_own (after script H) h event (omega arith)
+
+  pub ended_after_other : (k : ℕ) → k ≢ h → ended_by (after script (H ++ entry_by h event ∷ [])) k ≡ ended_by (after script H) k
+  ended_after_other k ne = ap (λ (T : State). ended_by T k) after_own ∙ ended_other (after script H) h k event ne
+
+  pub progress_own : (places : List ℕ) (place : ℕ) → h < script.harts → IsPlace script h (ended_by (after script H) h + 1) place → ProgressStands script (after script H) places → ProgressStands script (after script (H ++ entry_by h event ∷ [])) (set places h place)
+  progress_own places place on here old = record {
+    count = length-set places h place ∙ old.count;
+    each = λ k below. elim (cases_eq k h) [
+      | inl e ↦
+          let count = old.count in
+          let within : h < length places = omega arith in
+          subst (λ j. IsPlace script j (ended_by (after script (H ++ entry_by h event ∷ [])) j) (get_or (set places h place) j 0)) (sym e)
+          (subst (λ n. IsPlace script h n (get_or (set places h place) h 0)) (sym (ended_after_own on))
+          (subst (λ n. IsPlace script h (ended_by (after script H) h + 1) n) (sym (get_or-set_same places h place 0 within)) here))
+      | inr ne ↦
+          subst (λ n. IsPlace script k n (get_or (set places h place) k 0)) (sym (ended_after_other k ne))
+          (subst (λ n. IsPlace script k (ended_by (after script H) k) n) (sym (get_or-set_other places h k place 0 ne)) (old.each k below))
+    ];
+  }
+
+  -- a hart that ended its line, used its walk and has the ring of its translations fits
+  pub fits_own : (held : HartValue) → held.hart ≡ h → h < script.harts → held.ended ≡ ended_by (after script H) h + 1 → IsPlace script h held.ended held.place → held.walked ≡ None → held.hosts ≡ ring_of (renewed (after script H) (tlb script H h) event).pages → Fits script (H ++ entry_by h event ∷ []) held
+  fits_own held same on ended place none ring =
+      let H' = H ++ entry_by h event ∷ [] in
+      let translations : tlb script H' held.hart ≡ renewed (after script H) (tlb script H h) event =
+      ap (tlb script H') same ∙ tlb_same script H (entry_by h event) h refl in
+      record {
+        on_board = subst (λ k. k < script.harts) (sym same) on;
+        counts = ended ∙ sym (ended_after_own on) ∙ ap (ended_by (after script H')) (sym same);
+        stands = subst (λ k. IsPlace script k held.ended held.place) (sym same) place;
+        ring = ring ∙ ap (λ (t : Tlb). ring_of t.pages) (sym translations) ∙ ap (walked_ring (ring_of (tlb script H' held.hart).pages)) (sym none);
+        walk = subst (UnusedFits script H' held.hart) (sym none) tt;
+      }
+
+-- no hart has ended more lines than there are entries
+pub ended_within : (script : ScriptValue) (h : ℕ) → h < script.harts → (H : List Entry) → ended_by (after script H) h ≤ length H
+ended_within script h on = from_end (λ H. ended_by (after script H) h ≤ length H)
+    (λ H e more.
+    let size = (board_of script H).same_lists in
+    let longer : length (H ++ e ∷ []) ≡ length H + 1 = length_push H e in
+    elim (cases_eq h e.hart.0) [
+      | inl same ↦
+          let own : ended_by (after script (H ++ e ∷ [])) h ≡ ended_by (after script H) h + 1 =
+          ap (λ (T : State). ended_by T h) (after_push script H e)
+          ∙ ap (λ k. ended_by (after_event (after script H) k e.event) h) (sym same)
+          ∙ ended_own (after script H) h e.event (omega arith) in
+          omega arith
+      | inr ne ↦
+          let own : ended_by (after script (H ++ e ∷ [])) h ≡ ended_by (after script H) h =
+          ap (λ (T : State). ended_by T h) (after_push script H e) ∙ ended_other (after script H) e.hart.0 h e.event ne in
+          omega arith
+    ])
+    (let none : ended_by (after script []) h ≡ 0 = replicate_zero script.harts h in omega arith)
+
+-- ---- what was performed may be counted, and is kept then
+
+module _ (script : ScriptValue) (words : List ℕ) (mon : Mon) (held : HartValue) (event : Event) (performed : IsPerformed script words mon held event) where
+  stands_after : Stand script.pages script.harts words (after script (mon.history ++ entry_by held.hart event ∷ []))
+  stands_after =
+      subst (Stand script.pages script.harts words) (sym (after_own script mon.history held.hart event))
+      (stand_ended script.pages script.harts held.hart words (done (after script mon.history) held.hart event) performed.stands)
+
+  pub countable : IsCountable script mon.history held.hart words (entry_by held.hart event)
+  countable = record {
+    own = refl;
+    allowed = performed.allowed;
+    reached = performed.reached;
+    stands = stands_after;
+    count = performed.count;
+    epoch = performed.epoch;
+  }
+
+  pub kept_after : (place : ℕ) → IsPlace script held.hart (held.ended + 1) place
+      → IsKept script (set words (count_word script.pages script.harts) (length mon.history + 1))
+      (record { ground = mon.ground; history = mon.history ++ entry_by held.hart event ∷ []; progress = set mon.progress held.hart place })
+  kept_after place here =
+      let at = count_word script.pages script.harts in
+      let count = length mon.history + 1 in
+      let now : List ℕ = set words at count in
+      let size : length words ≡ all_words script.pages script.harts = performed.stands.stands.size in
+      let within : at < length words = omega arith in
+      let apart : epoch_word script.pages ≢ at = omega arith in
+      let longer : length (mon.history ++ entry_by held.hart event ∷ []) ≡ length mon.history + 1 = length_push mon.history (entry_by held.hart event) in
+      let epoch : epoch_in script.pages now ≡ epoch_in script.pages words = get_or-set_other words at (epoch_word script.pages) count 0 apart in
+      let few = performed.epoch in
+      record {
+        board = performed.board;
+        legal = legal_push script mon.history (entry_by held.hart event) performed.legal performed.allowed;
+        cached = each_push (λ before entry. IsReached script before entry.hart.0 entry.event) [] mon.history (entry_by held.hart event) performed.cached performed.reached;
+        stands = count_leaves_words script.pages script.harts words (after script (mon.history ++ entry_by held.hart event ∷ [])) count stands_after;
+        frames =
+            subst (FramesStand mon.ground.memory) (sym (after_own script mon.history held.hart event))
+            (frames_ended mon.ground.memory held.hart (done (after script mon.history) held.hart event) performed.frames);
+        progress = progress_own script mon.history held.hart event mon.progress place performed.on_board (subst (λ n. IsPlace script held.hart (n + 1) place) performed.counts here) performed.progress;
+        count = get_or-set_same words at count 0 within ∙ sym longer;
+        epoch = omega arith;
+      }
+
+  pub fits_after : (left : HartValue) → left.hart ≡ held.hart → left.ended ≡ held.ended + 1 → IsPlace script held.hart left.ended left.place → left.walked ≡ None → left.hosts ≡ held.hosts → Fits script (mon.history ++ entry_by held.hart event ∷ []) left
+  fits_after left same ended place none ring =
+      fits_own script mon.history held.hart event left same performed.on_board (ended ∙ ap (λ n. n + 1) performed.counts) place none (ring ∙ performed.ring)
+
+  -- the hart has a line left
+  pub line_left : IsSome (next_line script held.hart held.ended)
+  line_left =
+      let line = asked_line script (after script mon.history) held.hart (asked event) performed.allowed.0 in
+      let is = due script (after script mon.history) held.hart line.0 line.2 in
+      subst IsSome (sym (ap (next_line script held.hart) performed.counts ∙ is.found)) refl
+
+  -- it has not ended more lines than there are entries
+  pub ended_few : held.ended ≤ length mon.history
+  ended_few = subst (λ n. n ≤ length mon.history) (sym performed.counts) (ended_within script held.hart performed.on_board mon.history)
+
+  pub kept_by : (now : List ℕ) (history : List Entry) (places : List ℕ) (place : ℕ)
+      → IsPlace script held.hart (held.ended + 1) place
+      → now ≡ set words (count_word script.pages script.harts) (length mon.history + 1)
+      → history ≡ mon.history ++ entry_by held.hart event ∷ []
+      → places ≡ set mon.progress held.hart place
+      → IsKept script now (record { ground = mon.ground; history = history; progress = places })
+  kept_by now history places place here ws hs ps =
+      subst (λ x. IsKept script x (record { ground = mon.ground; history = history; progress = places })) (sym ws)
+      (subst (λ x. IsKept script (set words (count_word script.pages script.harts) (length mon.history + 1)) (record { ground = mon.ground; history = x; progress = places })) (sym hs)
+      (subst (λ x. IsKept script (set words (count_word script.pages script.harts) (length mon.history + 1)) (record { ground = mon.ground; history = mon.history ++ entry_by held.hart event ∷ []; progress = x })) (sym ps)
+      (kept_after place here)))

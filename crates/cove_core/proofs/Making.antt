@@ -1,0 +1,260 @@
+-- What a hart did, counted as an entry, is what the clauses of a step say.
+use Rattle.std.proofs.Common.{◌≡◌, ℕ, zero, suc, ◌+◌, ◌<◌, ◌≤◌, List, [], ◌∷◌, ◌++◌, None, Some, IfSome, IsSome, IsTrue, get_or, set, length, slice_get, refl, sym, subst, ap, ◌∙◌, arith}
+use Rattle.std.proofs.lemmas.Option.{none-some, same_Some}
+use Rattle.std.proofs.lemmas.List.{length_push}
+use Rattle.cove_base.proofs.HartPlaceLemmas.{line_at_place}
+use Rattle.cove_base.specs.declared.numbers.HartId.{HartId}
+use Rattle.cove_base.specs.HartLines.{next_line}
+use Rattle.cove_base.specs.HartValues.{HartValue, accessed_page}
+use Rattle.cove_base.specs.PageWords.{IsPageWord}
+use Rattle.cove_base.specs.Places.{count_word}
+use Rattle.cove_base.specs.Scripts.{ScriptValue, is_within_limits}
+use Rattle.cove_base.specs.declared.events.Entry.{Entry}
+use Rattle.cove_base.specs.declared.events.Event.{Event}
+use Rattle.cove_base.specs.declared.limits.TheConstants.{ENTRY_LIMIT}
+use Rattle.cove_base.specs.declared.numbers.Page.{Page}
+use Rattle.cove_base.specs.declared.scripts.Line.{Line}
+use Rattle.cove_base.specs.declared.scripts.Line.TheVariants as lines
+use Rattle.cove_base.specs.declared.scripts.ScriptLine.{ScriptLine}
+use Rattle.cove_core.specs.Called.{no_tables}
+use Rattle.cove_core.specs.Kept.{IsKept}
+use Rattle.cove_core.specs.Made.{IsMade, IsPerformed, IsTold}
+use Rattle.cove_core.specs.Reached.{CanDo, IsDone, IsPrepared, IsReachable, loaded}
+use Rattle.cove_core.specs.Reached.{stored as stored_event}
+use Rattle.cove_core.specs.declared.ground.Ground.{Ground}
+use Rattle.cove_core.specs.declared.monitors.Mon.{Mon}
+use Rattle.cove_core.proofs.Clearing.{clear_other, clear_own}
+use Rattle.cove_core.proofs.Events.{IsRightly, call_rightly, load_done, load_rightly, load_told, store_frames, store_rightly, store_stands, store_told}
+use Rattle.cove_core.proofs.Performing.{absent_now, reached_rightly, told_rightly}
+use Rattle.cove_core.proofs.ScriptLimits.{board_limits, line_page}
+use Rattle.cove_hart.specs.Needs.{access_need}
+use Rattle.cove_hart.specs.declared.needs.Need.TheVariants as needs
+use Rattle.cove_mem.specs.Frames.{frame}
+use Rattle.cove_model.proofs.AtTheEnd.{after_push, legal_push, tlb_same}
+use Rattle.cove_model.proofs.Beginning.{offered}
+use Rattle.cove_model.proofs.Fitting.{fits_other}
+use Rattle.cove_model.proofs.ToldProofs.{words_are_words}
+use Rattle.cove_model.proofs.WithinLimits.{Limits, limits_of}
+use Rattle.cove_model.specs.Fits.{Fits, ring_of}
+use Rattle.cove_model.specs.Histories.{Legal, after}
+use Rattle.cove_model.specs.LawfulStores.{AllowsLawful, IsLawful, MakesLawful}
+use Rattle.cove_model.specs.Offers.{Next, first_behind, offer}
+use Rattle.cove_model.specs.Played.{entry_by}
+use Rattle.cove_model.specs.States.{page_of, place_of}
+use Rattle.cove_model.specs.Steps.{IsDue, done}
+use Rattle.cove_model.specs.Tlbs.{Tlb}
+use Rattle.cove_model.specs.WordLaws.{Stand}
+use Rattle.cove_model.specs.WordsStand.{FramesStand, epoch_in}
+
+-- all that is known of an event before it is counted
+pub record Parts (script : ScriptValue) (words : List ℕ) (mon : Mon) (held : HartValue) (line : Line) (now : List ℕ) (frames : List (List ℕ)) (hosts : List (ℕ × Page)) (event : Event) : Type 0 where
+  pub rightly : IsRightly script mon.history held.hart line hosts event
+  pub stands : Stand script.pages script.harts now (done (after script mon.history) held.hart event)
+  pub frames_stand : FramesStand frames (done (after script mon.history) held.hart event)
+  pub count : get_or now (count_word script.pages script.harts) 0 ≡ length mon.history
+  pub epoch : epoch_in script.pages now ≤ length mon.history + 1
+  pub told : IsTold words held.hosts event
+  pub lawful : MakesLawful script.pages script.harts no_tables held.hart words words now
+
+module _ (script : ScriptValue) (within : IsTrue (is_within_limits script)) (words : List ℕ) (mon : Mon) (kept : IsKept script words mon) (held : HartValue) (fits : Fits script mon.history held) (l : ScriptLine) (at : slice_get script.lines held.place ≡ Some l) (next : next_line script held.hart held.ended ≡ Some l) where
+  frame_count : length mon.ground.memory ≡ script.pages
+  frame_count = kept.frames.count ∙ kept.stands.stands.owners.page_count
+
+  limits : Limits script
+  limits = limits_of script within
+
+  page_words : length mon.history < ENTRY_LIMIT → (p : ℕ) → p < script.pages → IsPageWord (get_or words p 0)
+  page_words room p below =
+      let some = (board_limits script within).some in
+      let fences = kept.epoch in
+      words_are_words script.pages script.harts words (after script mon.history) p below kept.stands (omega arith) (omega arith) (omega arith)
+
+  reachable : length mon.history < ENTRY_LIMIT → (p : ℕ) → accessed_page l.line ≡ Some p → IsReachable words mon.ground.memory held p
+  reachable room p asks =
+      let below = line_page script within held.place l p at asks in
+      let board = board_limits script within in
+      let pages = board.pages in
+      let some = board.some in
+      let size = kept.stands.stands.size in
+      let count = frame_count in
+      let fences = kept.epoch in
+      record {
+        limit = omega arith;
+        place = omega arith;
+        frame = omega arith;
+        word = page_words room p below;
+        absent = absent_now script limits mon.history kept.legal words kept.stands held fits l next p asks;
+      }
+
+  pub can_do : length mon.history < ENTRY_LIMIT → (line : Line) → l.line ≡ line → CanDo script.pages script.harts words mon.ground.memory held line
+  can_do room (lines.Call call) is =
+      let board = board_limits script within in
+      let fences = kept.epoch in
+      record {
+        page_limit = board.pages;
+        some_hart = omega (arith, board.some);
+        hart_limit = board.harts;
+        on_board = fits.on_board;
+        size = kept.stands.stands.size;
+        page_words = λ p below. page_words room p below;
+        within = kept.stands.within;
+        room = omega arith;
+        frame_count = frame_count;
+      }
+  can_do room (lines.Load addr) is = reachable room (page_of addr) (ap accessed_page is)
+  can_do room (lines.Store addr value) is = reachable room (page_of addr) (ap accessed_page is)
+
+  -- what was reached, of an access
+  access_below : (p : ℕ) → accessed_page l.line ≡ Some p → p < length mon.ground.memory
+  access_below p asks =
+      let below = line_page script within held.place l p at asks in
+      let count = frame_count in
+      omega arith
+
+  pub parts : access_need held (accessed_page l.line) ≡ needs.Event → (line : Line) → l.line ≡ line → (now : List ℕ) (frames : List (List ℕ)) (hosts : List (ℕ × Page)) (event : Event) → IsDone script.pages script.harts words now mon.ground.memory frames held hosts event line → Parts script words mon held line now frames hosts event
+  parts ready (lines.Call call) is now frames hosts event did =
+      let S = after script mon.history in
+      let served = did.called.serves S kept.stands kept.frames in
+      let fences = kept.epoch in
+      let more = did.called.epoch in
+      subst (Parts script words mon held (lines.Call call) now frames hosts) (sym did.is) (record {
+        rightly = call_rightly script mon.history held l call fits next is did.reply served.0 hosts did.ring;
+        stands = served.1;
+        frames_stand = served.2;
+        count = did.called.count ∙ kept.count;
+        epoch = omega arith;
+        told = tt;
+        lawful = did.called.lawful;
+      })
+  parts ready (lines.Load addr) is now frames hosts event did =
+      let S = after script mon.history in
+      let fences = kept.epoch in
+      let asks = ap accessed_page is in
+      let r = did.0.reach in
+      let value = get_or (frame mon.ground.memory (page_of addr)) (place_of addr) 0 in
+      let below = line_page script within held.place l (page_of addr) at asks in
+      let need = ap (access_need held) (sym asks) ∙ ready in
+      let right = reached_rightly script limits mon.history kept.legal words kept.stands held fits l next (page_of addr) asks below need hosts r did.0.reaches in
+      let same = load_done S held.hart addr value r in
+      subst (λ e. Parts script words mon held (lines.Load addr) now frames hosts e) (sym did.0.is)
+      (subst (λ ws. Parts script words mon held (lines.Load addr) ws frames hosts (loaded addr value r)) (sym did.1)
+      (subst (λ fs. Parts script words mon held (lines.Load addr) words fs hosts (loaded addr value r)) (sym did.2) (record {
+        rightly = load_rightly script mon.history held.hart addr mon.ground.memory kept.frames (access_below (page_of addr) asks) hosts r right;
+        stands = subst (Stand script.pages script.harts words) (sym same) kept.stands;
+        frames_stand = subst (FramesStand mon.ground.memory) (sym same) kept.frames;
+        count = kept.count;
+        epoch = omega arith;
+        told = load_told words held.hosts addr value r (told_rightly script limits mon.history kept.legal words kept.stands held fits l next (page_of addr) asks need hosts r did.0.reaches);
+        lawful = ([], tt, refl);
+      })))
+  parts ready (lines.Store addr value) is now frames hosts event did =
+      let S = after script mon.history in
+      let fences = kept.epoch in
+      let asks = ap accessed_page is in
+      let r = did.0.reach in
+      let below = line_page script within held.place l (page_of addr) at asks in
+      let need = ap (access_need held) (sym asks) ∙ ready in
+      let right = reached_rightly script limits mon.history kept.legal words kept.stands held fits l next (page_of addr) asks below need hosts r did.0.reaches in
+      subst (λ e. Parts script words mon held (lines.Store addr value) now frames hosts e) (sym did.0.is)
+      (subst (λ ws. Parts script words mon held (lines.Store addr value) ws frames hosts (stored_event addr value r)) (sym did.1)
+      (subst (λ fs. Parts script words mon held (lines.Store addr value) words fs hosts (stored_event addr value r)) (sym did.0.frames) (record {
+        rightly = store_rightly script mon.history held.hart addr value hosts r right;
+        stands = store_stands script.pages script.harts words S held.hart addr value r kept.stands;
+        frames_stand = store_frames mon.ground.memory S held.hart addr value r (access_below (page_of addr) asks) kept.frames;
+        count = kept.count;
+        epoch = omega arith;
+        told = store_told words held.hosts addr value r (told_rightly script limits mon.history kept.legal words kept.stands held fits l next (page_of addr) asks need hosts r did.0.reaches);
+        lawful = ([], tt, refl);
+      })))
+
+  -- where no hart is behind, the event is performed
+  pub performed : first_behind script (after script mon.history) l.phase ≡ None → (now : List ℕ) (ground : Ground) (hosts : List (ℕ × Page)) (event : Event) → (ground.pages ≡ mon.ground.pages) × (ground.harts ≡ mon.ground.harts) → Parts script words mon held l.line now ground.memory hosts event → IsPerformed script now (record { ground = ground; history = mon.history; progress = mon.progress }) (record held { hosts = hosts }) event
+  performed none now ground hosts event board did =
+      let S = after script mon.history in
+      let offer_is : offer script S held.hart ≡ Next l.line = offered script S held.hart l (ap (next_line script held.hart) (sym fits.counts) ∙ next) none in
+      record {
+        board = record { pages = board.0 ∙ kept.board.pages; harts = board.1 ∙ kept.board.harts };
+        legal = kept.legal;
+        cached = kept.cached;
+        progress = kept.progress;
+        allowed = (subst (IsDue script S held.hart) (sym did.rightly.asks) offer_is, did.rightly.answers);
+        reached = did.rightly.reached;
+        stands = did.stands;
+        frames = did.frames_stand;
+        count = did.count;
+        epoch = did.epoch;
+        on_board = fits.on_board;
+        counts = fits.counts;
+        place = fits.stands;
+        ring = did.rightly.ring;
+      }
+
+  -- and counted, it is made as the clauses say
+  pub made : (now : List ℕ) (ground : Ground) (hosts : List (ℕ × Page)) (event : Event) → IsPerformed script now (record { ground = ground; history = mon.history; progress = mon.progress }) (record held { hosts = hosts }) event → Parts script words mon held l.line now ground.memory hosts event → (counted : List ℕ) (new : Mon) (left : HartValue) → IsKept script counted new → Fits script new.history left → new.history ≡ mon.history ++ entry_by held.hart event ∷ [] → left.hart ≡ held.hart → left.hosts ≡ hosts → counted ≡ set now (count_word script.pages script.harts) (length mon.history + 1) → IsMade script words counted mon new held left (entry_by held.hart event)
+  made now ground hosts event performed did counted new left kept' fits' grown same ring stores =
+      let H = mon.history in
+      let e = entry_by held.hart event in
+      let S = after script H in
+      let legal : Legal script (H ++ e ∷ []) = legal_push script H e kept.legal performed.allowed in
+      record {
+        by = refl;
+        step = (performed.allowed, ap (after script) grown ∙ after_push script H e);
+        grown = grown;
+        kept = kept';
+        same_hart = same;
+        fits = fits';
+        others = λ other ne old. subst (λ h. Fits script h other) (sym grown) (fits_other script H e other (λ q. ne (sym q)) old);
+        told = did.told;
+        clear = clear_own script limits H e legal held.hart left.hosts (ring ∙ performed.ring ∙ ap (λ (t : Tlb). ring_of t.pages) (sym (tlb_same script H e held.hart refl)));
+        others_clear = λ other ne old. clear_other script limits H e legal other (λ q. ne (sym q)) old;
+        stores = (now, did.lawful, stores);
+      }
+
+-- ---- the next line of a hart, by its place
+
+pub next_at : (script : ScriptValue) (H : List Entry) (held : HartValue) → Fits script H held → (l : ScriptLine) → slice_get script.lines held.place ≡ Some l → next_line script held.hart held.ended ≡ Some l
+next_at script H held fits l at = sym (line_at_place script held.hart held.ended held.place fits.stands) ∙ at
+
+pub ready_at : (script : ScriptValue) (held : HartValue) → IsPrepared script held → (l : ScriptLine) → next_line script held.hart held.ended ≡ Some l → access_need held (accessed_page l.line) ≡ needs.Event
+ready_at script held prepared l next =
+    let same : l ≡ prepared.line = same_Some l prepared.line (sym next ∙ prepared.next) in
+    ap (λ (k : ScriptLine). access_need held (accessed_page k.line)) same ∙ prepared.ready
+
+pub has_next : (script : ScriptValue) (H : List Entry) (held : HartValue) → Fits script H held → IsPrepared script held → slice_get script.lines held.place ≡ None → ⊥
+has_next script H held fits prepared none =
+    none-some prepared.line (sym none ∙ line_at_place script held.hart held.ended held.place fits.stands ∙ prepared.next)
+
+-- ---- on another name of the board
+
+pub can_on : (pages pages' harts harts' : ℕ) → pages' ≡ pages → harts' ≡ harts → (words : List ℕ) (frames : List (List ℕ)) (held : HartValue) (line : Line) → CanDo pages harts words frames held line → CanDo pages' harts' words frames held line
+can_on pages pages' harts harts' p h words frames held line can =
+    subst (λ n. CanDo n harts' words frames held line) (sym p) (subst (λ n. CanDo pages n words frames held line) (sym h) can)
+
+pub done_on : (pages pages' harts harts' : ℕ) → pages' ≡ pages → harts' ≡ harts → (old new : List ℕ) (before now : List (List ℕ)) (held : HartValue) (hosts : List (ℕ × Page)) (event : Event) (line : Line) → IsDone pages' harts' old new before now held hosts event line → IsDone pages harts old new before now held hosts event line
+done_on pages pages' harts harts' p h old new before now held hosts event line did =
+    subst (λ n. IsDone pages n old new before now held hosts event line) h (subst (λ n. IsDone n harts' old new before now held hosts event line) p did)
+
+pub allows_on : (allows : List ℕ → ℕ → ℕ → Type 0) (pages pages' harts harts' hart : ℕ) → pages' ≡ pages → harts' ≡ harts → (old : List ℕ) → AllowsLawful allows pages harts no_tables hart old → AllowsLawful allows pages' harts' no_tables hart old
+allows_on allows pages pages' harts harts' hart p h old all = λ words place word lawful.
+    all words place word (subst (λ n. IsLawful pages n no_tables hart old words place word) h (subst (λ n. IsLawful n harts' no_tables hart old words place word) p lawful))
+
+-- ---- the entry at the end of a history
+
+abbrev pub entry_from : HartId → Event → Entry
+entry_from hart event = record { hart = hart; event = event }
+
+pub last_entry : (P : Entry → Type 0) (H H' : List Entry) (entry : Entry) (place : ℕ) → H' ≡ H ++ entry ∷ [] → place ≡ length H → P entry → IfSome (slice_get H' place) P
+last_entry P H H' entry place grown end p =
+    subst (λ o. IfSome o P) (sym (ap (λ n. slice_get H' n) end ∙ ap (λ h. slice_get h (length H)) grown ∙ at_end H entry)) p
+  where
+    at_end : (xs : List Entry) (x : Entry) → slice_get (xs ++ x ∷ []) (length xs) ≡ Some x
+    at_end [] x = refl
+    at_end (y ∷ ys) x = at_end ys x
+
+pub some_last : (H H' : List Entry) (entry : Entry) (place : ℕ) → H' ≡ H ++ entry ∷ [] → place ≡ length H → IsSome (slice_get H' place)
+some_last H H' entry place grown end = within_some H' place (subst (λ n. n < length H') (sym end) (omega (arith, ap length grown, length_push H entry)))
+  where
+    within_some : (xs : List Entry) (n : ℕ) → n < length xs → IsSome (slice_get xs n)
+    within_some [] n less = absurd (omega arith)
+    within_some (x ∷ xs) zero less = refl
+    within_some (x ∷ xs) (suc n) less = within_some xs n (omega arith)

@@ -1,0 +1,142 @@
+use Rattle.std.proofs.Common.{◌≡◌, ◌<◌, ◌∷◌, ◌++◌, [], Some, None, IfNone, length, slice_get, refl, sym, subst, ap, ◌∙◌, arith}
+use Rattle.cove_base.specs.Guards.{guard_after}
+use Rattle.cove_base.specs.declared.events.Entry.{Entry}
+use Rattle.cove_base.specs.declared.limits.TheConstants.{ENTRY_LIMIT}
+use Rattle.cove_core.proofs.Making.{allows_on, can_do, can_on, done_on, entry_from, has_next, last_entry, made, next_at, parts, performed, ready_at, some_last}
+use Rattle.cove_core.proofs.ScriptLimits.{board_limits}
+use Rattle.cove_core.specs.Made.{IsMade, IsPerformed}
+use Rattle.cove_hart.specs.HartStates.{value_of}
+use Rattle.cove_hart.specs.declared.states.HartState.{HartState}
+use Rattle.cove_model.specs.Histories.{after}
+use Rattle.cove_model.specs.Offers.{first_behind}
+use Rattle.cove_core.proofs.steps.event_step.Goals as goal
+
+pub unreachable-requires : goal.unreachable-requires
+unreachable-requires g c =
+    has_next c.args.script.now c.args.mon.now.history (value_of c.args.hart.now) c.requires.fits c.requires.prepared (sym c.line_at.ensures.line ∙ c.in_default.is)
+
+pub first_behind-requires-clause-few : goal.first_behind-requires-clause-few
+first_behind-requires-clause-few g c = omega (arith, (board_limits c.args.script.now c.line_at.ensures.within).harts)
+
+pub returns-in-Some-first_behind-clause-ahead : goal.returns-in-Some-first_behind-clause-ahead
+returns-in-Some-first_behind-clause-ahead g c =
+    let script = c.args.script.now in
+    let words = g.W.Words.words c.args.w.now in
+    let mon = c.args.mon.now in
+    let held = value_of c.args.hart.now in
+    let kept = c.requires.kept in
+    let fits = c.requires.fits in
+    let within = c.line_at.ensures.within in
+    let l = c.in-Some.line in
+    let at : slice_get script.lines held.place ≡ Some l = sym c.line_at.ensures.line ∙ c.in-Some.is in
+    let next = next_at script mon.history held fits l at in
+    record { line = l; next = next; first = c.in-Some-first_behind.ensures.some }
+
+pub perform-event-requires-clause-can : goal.perform-event-requires-clause-can
+perform-event-requires-clause-can g c =
+    let script = c.args.script.now in
+    let words = g.W.Words.words c.args.w.now in
+    let mon = c.args.mon.now in
+    let held = value_of c.args.hart.now in
+    let kept = c.requires.kept in
+    let fits = c.requires.fits in
+    let within = c.line_at.ensures.within in
+    let l = c.in-Some.line in
+    let at : slice_get script.lines held.place ≡ Some l = sym c.line_at.ensures.line ∙ c.in-Some.is in
+    let next = next_at script mon.history held fits l at in
+    let size = c.len-place.ensures in
+    let room : length mon.history < ENTRY_LIMIT = omega (arith, c.if-place.false) in
+    can_on script.pages mon.ground.pages script.harts mon.ground.harts kept.board.pages kept.board.harts words mon.ground.memory held l.line
+    (can_do script within words mon kept held fits l at next room l.line refl)
+
+pub perform-event-requires-clause-allowed : goal.perform-event-requires-clause-allowed
+perform-event-requires-clause-allowed g c =
+    let script = c.args.script.now in
+    let mon = c.args.mon.now in
+    let board = c.requires.kept.board in
+    allows_on (g.W.Words.allows (g.W.Words.guard c.args.w.now)) script.pages mon.ground.pages script.harts mon.ground.harts c.args.hart.now.hart.0 board.pages board.harts (g.W.Words.words c.args.w.now) c.requires.allowed
+
+pub enter-requires-clause-performed : goal.enter-requires-clause-performed
+enter-requires-clause-performed g c =
+    let script = c.args.script.now in
+    let words = g.W.Words.words c.args.w.now in
+    let mon = c.args.mon.now in
+    let held = value_of c.args.hart.now in
+    let kept = c.requires.kept in
+    let fits = c.requires.fits in
+    let within = c.line_at.ensures.within in
+    let l = c.in-Some.line in
+    let at : slice_get script.lines held.place ≡ Some l = sym c.line_at.ensures.line ∙ c.in-Some.is in
+    let next = next_at script mon.history held fits l at in
+    let ready = ready_at script held c.requires.prepared l next in
+    let step = c.perform-event in
+    let now = g.W.Words.words step.new.w in
+    let ground = step.new.g in
+    let hosts = step.new.hart.hosts in
+    let event = step.result in
+    let none : first_behind script (after script mon.history) l.phase ≡ None =
+    subst (λ r. IfNone r (first_behind script (after script mon.history) l.phase ≡ None)) c.in_default-first_behind.is c.first_behind.ensures.none in
+    let did = parts script within words mon kept held fits l at next ready l.line refl now ground.memory hosts event
+    (done_on script.pages mon.ground.pages script.harts mon.ground.harts kept.board.pages kept.board.harts words now mon.ground.memory ground.memory held hosts event l.line step.ensures.done) in
+    let performed_so = performed script within words mon kept held fits l at next none now ground hosts event step.ensures.board did in
+    subst (λ h. IsPerformed script now (record { ground = ground; history = mon.history; progress = mon.progress }) (value_of h) event) (sym step.ensures.hart) performed_so
+
+pub returns-clause-made : goal.returns-clause-made
+returns-clause-made g c =
+    let script = c.args.script.now in
+    let words = g.W.Words.words c.args.w.now in
+    let mon = c.args.mon.now in
+    let held = value_of c.args.hart.now in
+    let kept = c.requires.kept in
+    let fits = c.requires.fits in
+    let within = c.line_at.ensures.within in
+    let l = c.in-Some.line in
+    let at : slice_get script.lines held.place ≡ Some l = sym c.line_at.ensures.line ∙ c.in-Some.is in
+    let next = next_at script mon.history held fits l at in
+    let ready = ready_at script held c.requires.prepared l next in
+    let step = c.perform-event in
+    let now = g.W.Words.words step.new.w in
+    let ground = step.new.g in
+    let hosts = step.new.hart.hosts in
+    let event = step.result in
+    let none : first_behind script (after script mon.history) l.phase ≡ None =
+    subst (λ r. IfNone r (first_behind script (after script mon.history) l.phase ≡ None)) c.in_default-first_behind.is c.first_behind.ensures.none in
+    let did = parts script within words mon kept held fits l at next ready l.line refl now ground.memory hosts event
+    (done_on script.pages mon.ground.pages script.harts mon.ground.harts kept.board.pages kept.board.harts words now mon.ground.memory ground.memory held hosts event l.line step.ensures.done) in
+    let performed_so = performed script within words mon kept held fits l at next none now ground hosts event step.ensures.board did in
+    let hart : step.new.hart.hart ≡ c.args.hart.now.hart = ap (λ (h : HartState). h.hart) step.ensures.hart in
+    let entry : Entry = entry_from c.args.hart.now.hart event in
+    let grown : c.enter.new.mon.history ≡ mon.history ++ entry ∷ [] =
+    c.enter.ensures.grown ∙ ap (λ h. mon.history ++ entry_from h event ∷ []) hart in
+    last_entry (λ e. IsMade script words (g.W.Words.words c.enter.new.w) mon c.enter.new.mon held (value_of c.enter.new.hart) e) mon.history c.enter.new.mon.history entry c.len-place.result grown c.len-place.ensures
+    (made script within words mon kept held fits l at next now ground hosts event performed_so did (g.W.Words.words c.enter.new.w) c.enter.new.mon (value_of c.enter.new.hart)
+    c.enter.ensures.kept c.enter.ensures.fits grown (ap (λ n. n.0) (c.enter.ensures.hart ∙ hart)) c.enter.ensures.hosts c.enter.ensures.words)
+
+pub returns-clause-entry : goal.returns-clause-entry
+returns-clause-entry g c =
+    (c.len-place.ensures, some_last c.args.mon.now.history c.enter.new.mon.history (entry_from c.perform-event.new.hart.hart c.perform-event.result) c.len-place.result c.enter.ensures.grown c.len-place.ensures)
+
+pub returns-clause-guard : goal.returns-clause-guard
+returns-clause-guard g c =
+    let step = c.perform-event in
+    let entry : Entry = entry_from step.new.hart.hart step.result in
+    last_entry (λ e. g.W.Words.guard c.enter.new.w ≡ guard_after (g.W.Words.guard c.args.w.now) (g.W.Words.words c.enter.new.w) e) c.args.mon.now.history c.enter.new.mon.history entry c.len-place.result c.enter.ensures.grown c.len-place.ensures
+    (c.enter.ensures.guard ∙ ap (λ q. guard_after q (g.W.Words.words c.enter.new.w) entry) step.ensures.guard)
+
+pub returns-clause-due : goal.returns-clause-due
+returns-clause-due g c =
+    let script = c.args.script.now in
+    let words = g.W.Words.words c.args.w.now in
+    let mon = c.args.mon.now in
+    let held = value_of c.args.hart.now in
+    let kept = c.requires.kept in
+    let fits = c.requires.fits in
+    let within = c.line_at.ensures.within in
+    let l = c.in-Some.line in
+    let at : slice_get script.lines held.place ≡ Some l = sym c.line_at.ensures.line ∙ c.in-Some.is in
+    let next = next_at script mon.history held fits l at in
+    record {
+      line = l;
+      next = next;
+      none = subst (λ r. IfNone r (first_behind script (after script mon.history) l.phase ≡ None)) c.in_default-first_behind.is c.first_behind.ensures.none;
+    }

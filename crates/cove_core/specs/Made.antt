@@ -1,0 +1,112 @@
+-- What an entry that a hart makes leaves.
+use Rattle.std.specs.Prelude.{◌≡◌, ◌≢◌, ℕ, ◌+◌, ◌<◌, ◌≤◌, Bool, true, List, [], ◌∷◌, ◌++◌, ◌⊎◌, IsSome, None, Option, length, slice_index, slice_set}
+use Rattle.cove_base.specs.Guards.{Guard, guard_after}
+use Rattle.cove_base.specs.HartPlaces.{IsPlace}
+use Rattle.cove_base.specs.HartValues.{HartValue}
+use Rattle.cove_base.specs.PageWords.{IsHostWord}
+use Rattle.cove_base.specs.Places.{count_word, page_word}
+use Rattle.cove_base.specs.Rings.{found}
+use Rattle.cove_base.specs.Scripts.{ScriptValue}
+use Rattle.cove_base.specs.declared.events.Entry.{Entry}
+use Rattle.cove_base.specs.declared.events.Event.{Event}
+use Rattle.cove_base.specs.declared.events.Event.TheVariants as events
+use Rattle.cove_base.specs.declared.numbers.Page.{Page}
+use Rattle.cove_core.specs.Called.{no_tables}
+use Rattle.cove_core.specs.Kept.{IsBoard, IsKept, ProgressStands}
+use Rattle.cove_core.specs.declared.monitors.Mon.{Mon}
+use Rattle.cove_model.specs.Cached.{IsCached, IsReached}
+use Rattle.cove_model.specs.Fits.{Fits, ring_of}
+use Rattle.cove_model.specs.Histories.{Legal, after}
+use Rattle.cove_model.specs.LawfulStores.{MakesLawful}
+use Rattle.cove_model.specs.Owners.{holder, page_at}
+use Rattle.cove_model.specs.States.{ended_by, page_of}
+use Rattle.cove_model.specs.Steps.{Allows, IsStep, done}
+use Rattle.cove_model.specs.Tlbs.{renewed, tlb}
+use Rattle.cove_model.specs.WordLaws.{Stand}
+use Rattle.cove_model.specs.WordsStand.{FramesStand, epoch_in}
+
+-- An entry of a hart may be counted on these words: it may be made after the history and shows its translations
+-- rightly, the words stand for what it leaves, and the count is still that of the history.
+pub record IsCountable (script : ScriptValue) (history : List Entry) (hart : ℕ) (words : List ℕ) (entry : Entry) : Type 0 where
+  pub own : entry.hart.0 ≡ hart
+  pub allowed : Allows script (after script history) hart entry.event
+  pub reached : IsReached script history hart entry.event
+  pub stands : Stand script.pages script.harts words (after script (history ++ entry ∷ []))
+  pub count : slice_index words (count_word script.pages script.harts) ≡ length history
+  pub epoch : epoch_in script.pages words ≤ length history + 1
+
+-- a test lets each such entry be counted
+abbrev pub CountsEntries : (counts : List ℕ → ℕ → Entry → Type 0) → ScriptValue → (history : List Entry) (hart : ℕ) → Type 0
+CountsEntries counts script history hart =
+    (words : List ℕ) (entry : Entry)
+    → IsCountable script history hart words entry → counts words (count_word script.pages script.harts) entry
+
+-- An event that a hart made, before its entry is counted: the history and the progress are those before it, and the
+-- words, the frames and the ring of the hart are those after it.
+pub record IsPerformed (script : ScriptValue) (words : List ℕ) (mon : Mon) (held : HartValue) (event : Event) : Type 0 where
+  pub board : IsBoard script mon.ground
+  pub legal : Legal script mon.history
+  pub cached : IsCached script mon.history
+  pub progress : ProgressStands script (after script mon.history) mon.progress
+  pub allowed : Allows script (after script mon.history) held.hart event
+  pub reached : IsReached script mon.history held.hart event
+  pub stands : Stand script.pages script.harts words (done (after script mon.history) held.hart event)
+  pub frames : FramesStand mon.ground.memory (done (after script mon.history) held.hart event)
+  pub count : slice_index words (count_word script.pages script.harts) ≡ length mon.history
+  pub epoch : epoch_in script.pages words ≤ length mon.history + 1
+  pub on_board : held.hart < script.harts
+  pub counts : held.ended ≡ ended_by (after script mon.history) held.hart
+  pub place : IsPlace script held.hart held.ended held.place
+  pub ring : held.hosts ≡ ring_of (renewed (after script mon.history) (tlb script mon.history held.hart) event).pages
+
+-- a page is named by a ring, or its word says that it is the host's
+abbrev pub IsWithinReach : (words : List ℕ) (hosts : List (ℕ × Page)) (p : ℕ) → Type 0
+IsWithinReach words hosts p = IsSome (found p hosts) ⊎ IsHostWord (slice_index words (page_word p))
+
+-- an access that succeeded had its page within reach at the call, and one that faulted had none in its ring
+abbrev pub IsTold : (words : List ℕ) (hosts : List (ℕ × Page)) → Event → Type 0
+IsTold words hosts (events.Call call reply) = Unit {0}
+IsTold words hosts (events.Load addr how value) = IsWithinReach words hosts (page_of addr)
+IsTold words hosts (events.LoadFault addr) = found (page_of addr) hosts ≡ None
+IsTold words hosts (events.Store addr value how) = IsWithinReach words hosts (page_of addr)
+IsTold words hosts (events.StoreFault addr value) = found (page_of addr) hosts ≡ None
+IsTold words hosts (events.Fetch how) = ⊥
+IsTold words hosts events.Exec = ⊥
+IsTold words hosts (events.Access how) = ⊥
+IsTold words hosts (events.Guest act reply) = ⊥
+IsTold words hosts (events.Evidence quote) = ⊥
+IsTold words hosts (events.Exit exit) = ⊥
+
+-- a page that the entry gave to another is named by no ring of the hart
+abbrev pub IsClear : ScriptValue → (before : List Entry) → Entry → (hosts : List (ℕ × Page)) → Type 0
+IsClear script before entry hosts =
+    (p : ℕ)
+    → holder (page_at (after script (before ++ entry ∷ [])).pages p) ≢ holder (page_at (after script before).pages p)
+    → found p hosts ≡ None
+
+-- The stores of an entry: lawful ones of its hart, and then that of the count.
+abbrev pub StoresAndCounts : ScriptValue → (hart count : ℕ) (before now : List ℕ) → Type 0
+StoresAndCounts script hart count before now =
+    (stored : List ℕ) × MakesLawful script.pages script.harts no_tables hart before before stored
+    × (now ≡ slice_set stored (count_word script.pages script.harts) (count + 1))
+
+-- The entry of a hart, made and counted.
+pub record IsMade (script : ScriptValue) (before now : List ℕ) (old new : Mon) (held left : HartValue) (entry : Entry) : Type 0 where
+  pub by : entry.hart.0 ≡ held.hart
+  pub step : IsStep script (after script old.history) entry (after script new.history)
+  pub grown : new.history ≡ old.history ++ entry ∷ []
+  pub kept : IsKept script now new
+  pub same_hart : left.hart ≡ held.hart
+  pub fits : Fits script new.history left
+  pub others : (other : HartValue) → other.hart ≢ held.hart → Fits script old.history other → Fits script new.history other
+  pub told : IsTold before held.hosts entry.event
+  -- no ring names a page whose holder changed, the page of an unused walk included
+  pub clear : IsClear script old.history entry left.hosts
+  pub others_clear : (other : HartValue) → other.hart ≢ held.hart → Fits script old.history other → IsClear script old.history entry other.hosts
+  pub stores : StoresAndCounts script held.hart (length old.history) before now
+
+-- what stands beside the words after the entry at a place was counted
+pub record IsCounted (history : List Entry) (place : ℕ) (guard_before guard_now : Option Guard) (now : List ℕ) (clean : Bool) (entry : Entry) : Type 0 where
+  pub place_is : place ≡ length history
+  pub guard : guard_now ≡ guard_after guard_before now entry
+  pub clean_is : clean ≡ true

@@ -1,0 +1,150 @@
+-- What a hart comes to at a page of its next line, by its ring, its unused walk and the words.
+use Rattle.std.specs.Prelude.{◌≡◌, ℕ, false, true, ◌<◌, Bool, List, [], length, if◌then◌else◌, Option, Some, None, slice_index}
+use Rattle.cove_base.specs.HartLines.{next_line}
+use Rattle.cove_base.specs.HartValues.{HartValue, accessed_page}
+use Rattle.cove_base.specs.PageWords.{IsHostWord, IsPageWord}
+use Rattle.cove_base.specs.Places.{page_word}
+use Rattle.cove_base.specs.Rings.{filled, found}
+use Rattle.cove_base.specs.Scripts.{ScriptValue}
+use Rattle.cove_base.specs.declared.calls.HostCall.{HostCall}
+use Rattle.cove_base.specs.declared.calls.HostCall.TheVariants.{Convert, GlobalFence, LocalFence, Reclaim, Create, Region, Tables, Measured, Vcpu, Finalize, Zero, Shared, Run, Invalidate, TvmFence, Validate, Remove, Destroy, Kick, Info, Bind, Unbind, Unbound, Inject}
+use Rattle.cove_base.specs.declared.events.Event.{Event}
+use Rattle.cove_base.specs.declared.events.Event.TheVariants as events
+use Rattle.cove_base.specs.declared.events.How.TheVariants.{Hit, Walk}
+use Rattle.cove_base.specs.declared.limits.TheConstants.{PAGE_LIMIT}
+use Rattle.cove_base.specs.declared.numbers.Page.{Page}
+use Rattle.cove_base.specs.declared.scripts.Line.{Line}
+use Rattle.cove_base.specs.declared.scripts.Line.TheVariants as lines
+use Rattle.cove_base.specs.declared.scripts.ScriptLine.{ScriptLine}
+use Rattle.cove_base.specs.declared.statuses.Reply.{Reply}
+use Rattle.cove_base.specs.declared.walks.Noted.{Noted}
+use Rattle.cove_base.specs.declared.events.Walked.{Walked}
+use Rattle.cove_base.specs.declared.events.Walked.TheVariants as walks
+use Rattle.cove_core.specs.Called.{Called, IsReady}
+use Rattle.cove_core.specs.declared.accesses.Reach.{Reach}
+use Rattle.cove_core.specs.declared.accesses.Reach.TheVariants as reach
+use Rattle.cove_hart.specs.Needs.{access_need}
+use Rattle.cove_hart.specs.declared.needs.Need.TheVariants as needs
+use Rattle.cove_mem.specs.Frames.{frame, with_word}
+use Rattle.cove_model.specs.States.{page_of, place_of}
+use Rattle.cove_model.specs.Tlbs.{is_success}
+
+-- a hart has a line left, for which it needs no walk any more
+pub record IsPrepared (script : ScriptValue) (held : HartValue) : Type 0 where
+  pub line : ScriptLine
+  pub next : next_line script held.hart held.ended ≡ Some line
+  pub ready : access_need held (accessed_page line.line) ≡ needs.Event
+
+-- a walk found a page
+abbrev pub is_found : Walked → Bool
+is_found (walks.Found page) = true
+is_found (walks.Missing word) = false
+
+-- the walk that was not used yet found a page, or none
+abbrev pub HasWalked : Option Noted → (finding : Bool) → Type 0
+HasWalked None finding = ⊥
+HasWalked (Some noted) finding = is_found noted.walked ≡ finding
+
+-- A page is held by the ring; or a walk that was not used yet found it; or that walk found none, and it is the host's
+-- by now, so that it comes into the ring; or it is not.
+abbrev pub Reaches : (words : List ℕ) (held : HartValue) (p : ℕ) (hosts : List (ℕ × Page)) → Reach → Type 0
+Reaches words held p hosts reach.Held = (held.walked ≡ None) × (hosts ≡ held.hosts)
+Reaches words held p hosts reach.Walked = HasWalked held.walked true × (hosts ≡ held.hosts)
+Reaches words held p hosts reach.Fresh =
+    HasWalked held.walked false × IsHostWord (slice_index words (page_word p)) × (hosts ≡ filled held.hosts p (record { 0 = p }))
+Reaches words held p hosts reach.Absent =
+    HasWalked held.walked false × (IsHostWord (slice_index words (page_word p)) → ⊥) × (hosts ≡ held.hosts)
+
+-- the event of a load, and of a store
+abbrev pub loaded : (addr value : ℕ) → Reach → Event
+loaded addr value reach.Held = events.Load addr Hit value
+loaded addr value reach.Walked = events.Load addr Walk value
+loaded addr value reach.Fresh = events.Load addr Walk value
+loaded addr value reach.Absent = events.LoadFault addr
+
+abbrev pub stored : (addr value : ℕ) → Reach → Event
+stored addr value reach.Held = events.Store addr value Hit
+stored addr value reach.Walked = events.Store addr value Walk
+stored addr value reach.Fresh = events.Store addr value Walk
+stored addr value reach.Absent = events.StoreFault addr value
+
+-- the frames after a store, where its page was reached
+abbrev pub frames_by : Reach → (before stored : List (List ℕ)) → List (List ℕ)
+frames_by reach.Held before stored = stored
+frames_by reach.Walked before stored = stored
+frames_by reach.Fresh before stored = stored
+frames_by reach.Absent before stored = before
+
+-- an answered call empties the ring of its hart
+abbrev pub empties : HostCall → (accepted : Bool) → Bool
+empties GlobalFence accepted = accepted
+empties LocalFence accepted = true
+empties (Convert base n) accepted = false
+empties (Reclaim base n) accepted = false
+empties (Create root state) accepted = false
+empties (Region t gpa len) accepted = false
+empties (Tables t base n) accepted = false
+empties (Measured t src dst n gpa) accepted = false
+empties (Vcpu t v state) accepted = false
+empties (Finalize t pc arg) accepted = false
+empties (Zero t base n gpa) accepted = false
+empties (Shared t base n gpa) accepted = false
+empties (Run t v fuel) accepted = false
+empties (Invalidate t gpa n) accepted = false
+empties (TvmFence t) accepted = false
+empties (Validate t gpa n) accepted = false
+empties (Remove t gpa n) accepted = false
+empties (Destroy t) accepted = false
+empties (Kick hart) accepted = false
+empties Info accepted = false
+empties (Bind t v hart file) accepted = false
+empties (Unbind t v) accepted = false
+empties (Unbound t v) accepted = false
+empties (Inject t v id) accepted = false
+
+-- the ring of a hart after its call was answered
+abbrev pub ring_after : HostCall → (accepted : Bool) → List (ℕ × Page) → List (ℕ × Page)
+ring_after call accepted hosts = if empties call accepted then [] else hosts
+
+-- what an access of a page needs of the words, the frames and the ring; a walk that found none left the ring without it
+pub record IsReachable (words : List ℕ) (frames : List (List ℕ)) (held : HartValue) (p : ℕ) : Type 0 where
+  pub limit : p < PAGE_LIMIT
+  pub place : p < length words
+  pub frame : p < length frames
+  pub word : IsPageWord (slice_index words p)
+  pub absent : HasWalked held.walked false → found p held.hosts ≡ None
+
+-- a load that a hart made
+pub record IsLoaded (words : List ℕ) (frames : List (List ℕ)) (held : HartValue) (addr : ℕ) (hosts : List (ℕ × Page)) (event : Event) : Type 0 where
+  pub reach : Reach
+  pub reaches : Reaches words held (page_of addr) hosts reach
+  pub is : event ≡ loaded addr (slice_index (frame frames (page_of addr)) (place_of addr)) reach
+
+-- a store that a hart made
+pub record IsStored (words : List ℕ) (before now : List (List ℕ)) (held : HartValue) (addr value : ℕ) (hosts : List (ℕ × Page)) (event : Event) : Type 0 where
+  pub reach : Reach
+  pub reaches : Reaches words held (page_of addr) hosts reach
+  pub is : event ≡ stored addr value reach
+  pub frames : now ≡ frames_by reach before (with_word before (page_of addr) (place_of addr) value)
+
+-- a call that a hart made
+pub record IsAnswered (pages harts hart : ℕ) (call : HostCall) (old new : List ℕ) (before now : List (List ℕ)) (hosts left : List (ℕ × Page)) (event : Event) : Type 0 where
+  pub reply : Reply
+  pub called : Called pages harts hart call old new before now reply
+  pub is : event ≡ events.Call call reply
+  pub ring : left ≡ ring_after call (is_success reply.status) hosts
+
+-- what a hart needs of the words and the frames to do what a line says
+abbrev pub CanDo : (pages harts : ℕ) (words : List ℕ) (frames : List (List ℕ)) → HartValue → Line → Type 0
+CanDo pages harts words frames held (lines.Call call) = IsReady pages harts held.hart words frames
+CanDo pages harts words frames held (lines.Load addr) = IsReachable words frames held (page_of addr)
+CanDo pages harts words frames held (lines.Store addr value) = IsReachable words frames held (page_of addr)
+
+-- a hart did what a line says; an access changes no word, and a load no frame
+abbrev pub IsDone : (pages harts : ℕ) (old new : List ℕ) (before now : List (List ℕ)) → HartValue → (hosts : List (ℕ × Page)) → Event → Line → Type 0
+IsDone pages harts old new before now held hosts event (lines.Call call) =
+    IsAnswered pages harts held.hart call old new before now held.hosts hosts event
+IsDone pages harts old new before now held hosts event (lines.Load addr) =
+    IsLoaded old before held addr hosts event × (new ≡ old) × (now ≡ before)
+IsDone pages harts old new before now held hosts event (lines.Store addr value) =
+    IsStored old before now held addr value hosts event × (new ≡ old)

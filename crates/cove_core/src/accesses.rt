@@ -1,0 +1,210 @@
+//! What a hart does for its next line, before its entry is counted: a load, a store or a call.
+
+ghost use Rattle.std.specs.Prelude.{◌≡◌, ◌<◌, ◌↔◌, ◌^◌, IsTrue, None, false, length, slice_index};
+ghost use Rattle.cove_base.specs.PageWords.{IsHostWord, IsPageWord};
+ghost use Rattle.cove_base.specs.Rings.{found};
+ghost use Rattle.cove_core.specs.Called.{IsReady, no_tables};
+ghost use Rattle.cove_core.specs.Reached.{CanDo, HasWalked, IsAnswered, IsDone, IsLoaded, IsReachable, IsStored, Reaches, empties, frames_by, loaded, stored};
+ghost use Rattle.cove_hart.specs.HartStates.{value_of};
+ghost use Rattle.cove_mem.specs.Frames.{frame, with_word};
+ghost use Rattle.cove_model.specs.LawfulStores.{AllowsLawful};
+ghost use Rattle.cove_model.specs.States.{page_of, place_of};
+ghost use Rattle.cove_model.specs.Tlbs.{is_success};
+
+use crate::calls::call;
+use crate::ground::Ground;
+use cove_base::{Event, HostCall, How, Line, Page, Status, Walked, Words};
+use cove_hart::HartState;
+use cove_mem::Memory;
+use cove_owner::{PageState, state};
+
+/// How a hart comes to the page of its next line.
+#[derive(Clone, Copy, Debug, PartialEq, Eq)]
+pub enum Reach {
+    /// Its ring holds the page.
+    Held,
+    /// A walk that it did not use yet found the page.
+    Walked,
+    /// That walk found none, and the page is the host's by now.
+    Fresh,
+    /// The page is not the host's.
+    Absent,
+}
+
+/// Does for a hart what a line says.
+pub fn perform<W: Words>(w: &mut W, g: &mut Ground, hart: &mut HartState, line: Line) -> Event
+    requires can { CanDo g.old.pages g.old.harts (W.words w.old) g.old.memory (value_of hart.old) line }
+    requires allowed { AllowsLawful (W.allows (W.guard w.old)) g.old.pages g.old.harts no_tables hart.old.hart.0 (W.words w.old) }
+    ensures done { IsDone g.old.pages g.old.harts (W.words w.old) (W.words w.new) g.old.memory g.new.memory
+        (value_of hart.old) hart.new.hosts result line }
+    ensures hart { hart.new ≡ record hart.old { hosts = hart.new.hosts } }
+    ensures guard { W.guard w.new ≡ W.guard w.old }
+    ensures board { (g.new.pages ≡ g.old.pages) × (g.new.harts ≡ g.old.harts) }
+{
+    match line {
+        Line::Call(c) => answer(w, g, hart, c),
+        Line::Load { addr } => load(w, &g.memory, hart, addr),
+        Line::Store { addr, value } => store(w, &mut g.memory, hart, addr, value),
+    }
+}
+
+/// Makes a load for a hart.
+pub fn load<W: Words>(w: &mut W, memory: &Memory, hart: &mut HartState, addr: u64) -> Event
+    requires { IsReachable (W.words w.old) memory.now (value_of hart.old) (page_of addr) }
+    ensures loaded { IsLoaded (W.words w.old) memory.now (value_of hart.old) addr hart.new.hosts result }
+    ensures hart { hart.new ≡ record hart.old { hosts = hart.new.hosts } }
+    ensures words { W.words w.new ≡ W.words w.old }
+    ensures clean { W.clean w.new ≡ W.clean w.old }
+    ensures guard { W.guard w.new ≡ W.guard w.old }
+{
+    let page = Page((addr / 4096) as u32);
+    let reach = look_at(w, hart, page);
+    let value = memory.load(page, (addr / 8 % 512) as u16);
+    loaded(addr, value, reach)
+}
+
+/// Makes a store for a hart.
+pub fn store<W: Words>(
+    w: &mut W,
+    memory: &mut Memory,
+    hart: &mut HartState,
+    addr: u64,
+    value: u64,
+) -> Event
+    requires { IsReachable (W.words w.old) memory.old (value_of hart.old) (page_of addr) }
+    ensures stored { IsStored (W.words w.old) memory.old memory.new (value_of hart.old) addr value hart.new.hosts result }
+    ensures hart { hart.new ≡ record hart.old { hosts = hart.new.hosts } }
+    ensures words { W.words w.new ≡ W.words w.old }
+    ensures clean { W.clean w.new ≡ W.clean w.old }
+    ensures guard { W.guard w.new ≡ W.guard w.old }
+{
+    let page = Page((addr / 4096) as u32);
+    let reach = look_at(w, hart, page);
+    store_where(memory, reach, page, (addr / 8 % 512) as u16, value);
+    stored(addr, value, reach)
+}
+
+/// Answers a call for a hart.
+pub fn answer<W: Words>(w: &mut W, g: &mut Ground, hart: &mut HartState, c: HostCall) -> Event
+    requires ready { IsReady g.old.pages g.old.harts hart.old.hart.0 (W.words w.old) g.old.memory }
+    requires allowed { AllowsLawful (W.allows (W.guard w.old)) g.old.pages g.old.harts no_tables hart.old.hart.0 (W.words w.old) }
+    ensures answered { IsAnswered g.old.pages g.old.harts hart.old.hart.0 c
+        (W.words w.old) (W.words w.new) g.old.memory g.new.memory hart.old.hosts hart.new.hosts result }
+    ensures hart { hart.new ≡ record hart.old { hosts = hart.new.hosts } }
+    ensures guard { W.guard w.new ≡ W.guard w.old }
+    ensures board { (g.new.pages ≡ g.old.pages) × (g.new.harts ≡ g.old.harts) }
+{
+    let reply = call(w, g, hart.hart, c);
+    if empties(c, is_success(reply.status)) {
+        hart.hosts.clear();
+    }
+    Event::Call { call: c, reply }
+}
+
+// How a hart comes to the page of its next line. A page that is the host's by now comes into its ring.
+fn look_at<W: Words>(w: &mut W, hart: &mut HartState, page: Page) -> Reach
+    requires place { page.0 < length (W.words w.old) }
+    requires limit { page.0 < 2 ^ 16 }
+    requires word { IsPageWord (slice_index (W.words w.old) page.0) }
+    requires absent { HasWalked hart.old.walked false → found page.0 hart.old.hosts ≡ None }
+    ensures reaches { Reaches (W.words w.old) (value_of hart.old) page.0 hart.new.hosts result }
+    ensures hart { hart.new ≡ record hart.old { hosts = hart.new.hosts } }
+    ensures words { W.words w.new ≡ W.words w.old }
+    ensures clean { W.clean w.new ≡ W.clean w.old }
+    ensures guard { W.guard w.new ≡ W.guard w.old }
+{
+    let Some(noted) = hart.walked else {
+        return Reach::Held;
+    };
+    if let Walked::Found(_) = noted.walked {
+        return Reach::Walked;
+    }
+    if !is_host(w, page) {
+        return Reach::Absent;
+    }
+    hart.hosts.fill(u64::from(page.0), page);
+    Reach::Fresh
+}
+
+/// Whether the words have a page as the host's.
+pub fn is_host<W: Words>(w: &mut W, page: Page) -> bool
+    requires place { page.0 < length (W.words w.old) }
+    requires limit { page.0 < 2 ^ 16 }
+    requires word { IsPageWord (slice_index (W.words w.old) page.0) }
+    ensures host { IsTrue result ↔ IsHostWord (slice_index (W.words w.old) page.0) }
+    ensures words { W.words w.new ≡ W.words w.old }
+    ensures clean { W.clean w.new ≡ W.clean w.old }
+    ensures guard { W.guard w.new ≡ W.guard w.old }
+{
+    match state(w, page) {
+        PageState::Host { .. } => true,
+        PageState::Converting { .. } | PageState::Given { .. } | PageState::Released => false,
+    }
+}
+
+// The event of a load.
+fn loaded(addr: u64, value: u64, reach: Reach) -> Event
+    ensures { result ≡ loaded addr value reach }
+{
+    match reach {
+        Reach::Held => Event::Load {
+            addr,
+            how: How::Hit,
+            value,
+        },
+        Reach::Walked | Reach::Fresh => Event::Load {
+            addr,
+            how: How::Walk,
+            value,
+        },
+        Reach::Absent => Event::LoadFault { addr },
+    }
+}
+
+// The event of a store.
+fn stored(addr: u64, value: u64, reach: Reach) -> Event
+    ensures { result ≡ stored addr value reach }
+{
+    match reach {
+        Reach::Held => Event::Store {
+            addr,
+            value,
+            how: How::Hit,
+        },
+        Reach::Walked | Reach::Fresh => Event::Store {
+            addr,
+            value,
+            how: How::Walk,
+        },
+        Reach::Absent => Event::StoreFault { addr, value },
+    }
+}
+
+// Stores a word, where its page was reached.
+fn store_where(memory: &mut Memory, reach: Reach, page: Page, word: u16, value: u64)
+    requires page { page.0 < length memory.old }
+    requires word { word < 512 }
+    ensures { memory.new ≡ frames_by reach memory.old (with_word memory.old page.0 word value) }
+{
+    match reach {
+        Reach::Held | Reach::Walked | Reach::Fresh => memory.store(page, word, value),
+        Reach::Absent => {}
+    }
+}
+
+// Whether an answered call empties the ring of its hart.
+fn empties(c: HostCall, accepted: bool) -> bool
+    ensures { result ≡ empties c accepted }
+{
+    match c {
+        HostCall::GlobalFence => accepted,
+        HostCall::LocalFence => true,
+        _ => false,
+    }
+}
+
+fn is_success(status: Status) -> bool
+    ensures { result ≡ is_success status }
+{
+    matches!(status, Status::Success)
+}
