@@ -10,3 +10,4 @@ pub mod Events
 pub mod Making
 pub mod Performing
 pub mod ScriptLimits
+pub mod Walking

@@ -4,3 +4,4 @@ pub mod Made
 pub mod Reached
 pub mod Replies
 pub mod Stepped
+pub mod Walks

@@ -12,6 +12,7 @@ mod calls;
 mod ground;
 mod monitors;
 mod steps;
+mod walks;
 #[cfg(test)]
 mod tests;
 
@@ -19,3 +20,4 @@ pub use calls::{call, convert_pages, global_fence, local_fence, reclaim_pages};
 pub use ground::Ground;
 pub use monitors::{Mon, Progress};
 pub use steps::{Stepped, event_step};
+pub use walks::walk_step;

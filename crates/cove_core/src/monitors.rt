@@ -47,6 +47,13 @@ impl Progress {
     }
 }
 
+/// That a script is within its limits; it runs no code.
+pub fn within_limits(script: &Script)
+    ensures { IsTrue (is_within_limits script.now) }
+{
+    let _pages = script.pages;
+}
+
 /// The line at a place of a script's lines.
 pub fn line_at(script: &Script, place: usize) -> Option<ScriptLine>
     ensures line { result ≡ slice_get script.now.lines place }
