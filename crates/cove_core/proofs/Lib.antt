@@ -11,3 +11,4 @@ pub mod Making
 pub mod Performing
 pub mod ScriptLimits
 pub mod Walking
+pub mod Opening

@@ -17,6 +17,7 @@ use Rattle.cove_base.specs.declared.walks.Target.{Target}
 use Rattle.cove_base.specs.declared.walks.Target.TheVariants as targets
 use Rattle.cove_base.proofs.HartPlaceLemmas.{line_at_place}
 use Rattle.cove_core.specs.Kept.{IsKept}
+use Rattle.cove_core.specs.Reached.{IsPrepared}
 use Rattle.cove_core.specs.Walks.{IsFoundIn}
 use Rattle.cove_core.specs.declared.monitors.Mon.{Mon}
 use Rattle.cove_core.proofs.ScriptLimits.{line_page}
@@ -127,3 +128,17 @@ fits_walk script words held page (walks.Missing word) below want finds mon kept 
     let H = mon.history in
     let none = unwalked_now script H held page.0 fits want in
     fits_missing script H held page word fits none (sought script H held page.0 fits want none)
+
+-- ---- a hart that needs no walk
+
+-- a hart whose need is its event is prepared for it
+pub prepared_for : (script : ScriptValue) (held : HartValue) (phase : ℕ) → next_need script held phase ≡ Event → IsPrepared script held
+prepared_for script held phase need = by_line (next_line script held.hart held.ended) refl need
+  where
+    by_phase : (line : ScriptLine) → next_line script held.hart held.ended ≡ Some line → (late : Bool) → cond late Idle (access_need held (accessed_page line.line)) ≡ Event → IsPrepared script held
+    by_phase line next true need' = cc
+    by_phase line next false need' = record { line = line; next = next; ready = need' }
+
+    by_line : (o : Option ScriptLine) → next_line script held.hart held.ended ≡ o → line_need held phase o ≡ Event → IsPrepared script held
+    by_line None next need' = cc
+    by_line (Some line) next need' = by_phase line next (nat_lt phase line.phase) need'

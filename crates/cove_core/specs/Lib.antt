@@ -5,3 +5,4 @@ pub mod Reached
 pub mod Replies
 pub mod Stepped
 pub mod Walks
+pub mod Seats
