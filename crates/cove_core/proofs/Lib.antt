@@ -10,3 +10,5 @@ pub mod Events
 pub mod Making
 pub mod Performing
 pub mod ScriptLimits
+pub mod Walking
+pub mod Opening

@@ -4,3 +4,5 @@ pub mod Made
 pub mod Reached
 pub mod Replies
 pub mod Stepped
+pub mod Walks
+pub mod Seats

@@ -11,11 +11,15 @@ mod accesses;
 mod calls;
 mod ground;
 mod monitors;
+mod seats;
 mod steps;
+mod walks;
 #[cfg(test)]
 mod tests;
 
 pub use calls::{call, convert_pages, global_fence, local_fence, reclaim_pages};
 pub use ground::Ground;
 pub use monitors::{Mon, Progress};
+pub use seats::Harts;
 pub use steps::{Stepped, event_step};
+pub use walks::walk_step;

@@ -4,6 +4,7 @@ ghost use Rattle.cove_base.specs.Scripts.{is_within_limits};
 
 use crate::ground::Ground;
 use cove_base::{HartId, History, NoMemory, Script, ScriptLine};
+use cove_hart::next_place;
 use std::alloc::Global;
 use std::marker::Model;
 
@@ -30,6 +31,20 @@ impl Model for Progress {
 }
 
 impl Progress {
+    ghost use Rattle.cove_core.specs.Seats.{AtFirstLines};
+
+    /// The places of the harts of a script's board that have ended no line.
+    pub fn new(alloc: Global, script: &Script) -> Result<Self, NoMemory>
+        ensures { IfOk result (λ places. AtFirstLines script.now script.now.harts places) }
+    {
+        let count = script.harts;
+        let mut places = Vec::with_capacity(alloc, count as usize)?;
+        for k in 0..count {
+            places.push(next_place(script, HartId(k), 0))?;
+        }
+        Ok(Progress { places })
+    }
+
     /// The place of a hart's next line.
     pub fn place(&self, hart: HartId) -> usize
         requires { hart.0 < length self.now }
@@ -45,6 +60,13 @@ impl Progress {
     {
         self.places[hart.0 as usize] = place;
     }
+}
+
+/// That a script is within its limits; it runs no code.
+pub fn within_limits(script: &Script)
+    ensures { IsTrue (is_within_limits script.now) }
+{
+    let _pages = script.pages;
 }
 
 /// The line at a place of a script's lines.

@@ -15,6 +15,14 @@ fn hart_of(second: bool) -> HartId
     if second { HartId(1) } else { HartId(0) }
 }
 
+fn convert(base: u64, n: u64) -> HostCall {
+    HostCall::Convert { base, n }
+}
+
+fn reclaim(base: u64, n: u64) -> HostCall {
+    HostCall::Reclaim { base, n }
+}
+
 // The answer to a call of one of two harts, on a board of 16 pages.
 fn answer(w: &mut Plain, g: &mut Ground, second: bool, c: HostCall) -> Reply
     requires board { (g.old.pages ≡ 16) × (g.old.harts ≡ 2) }
@@ -37,81 +45,20 @@ fn calls_of_two_harts_are_answered_in_turn(rt: HostRuntime) -> Result<(), Fail> 
         harts: 2,
     };
     let table: [(bool, HostCall, Status, u64); 15] = [
-        (
-            false,
-            HostCall::Convert { base: 0x4001, n: 1 },
-            Status::InvalidAddress,
-            0,
-        ),
-        (
-            false,
-            HostCall::Convert { base: 0x4000, n: 0 },
-            Status::InvalidParam,
-            0,
-        ),
-        (
-            false,
-            HostCall::Convert {
-                base: 0x4001,
-                n: 17,
-            },
-            Status::InvalidParam,
-            0,
-        ),
-        (
-            false,
-            HostCall::Convert { base: 0xf000, n: 1 },
-            Status::Success,
-            0,
-        ),
-        (
-            false,
-            HostCall::Convert {
-                base: 0x10000,
-                n: 1,
-            },
-            Status::InvalidAddress,
-            0,
-        ),
-        (
-            false,
-            HostCall::Convert { base: 0xe000, n: 3 },
-            Status::InvalidAddress,
-            0,
-        ),
-        (
-            false,
-            HostCall::Convert { base: 0x4000, n: 1 },
-            Status::Success,
-            0,
-        ),
-        (
-            false,
-            HostCall::Convert { base: 0x4000, n: 1 },
-            Status::InvalidAddress,
-            0,
-        ),
+        (false, convert(0x4001, 1), Status::InvalidAddress, 0),
+        (false, convert(0x4000, 0), Status::InvalidParam, 0),
+        (false, convert(0x4001, 17), Status::InvalidParam, 0),
+        (false, convert(0xf000, 1), Status::Success, 0),
+        (false, convert(0x10000, 1), Status::InvalidAddress, 0),
+        (false, convert(0xe000, 3), Status::InvalidAddress, 0),
+        (false, convert(0x4000, 1), Status::Success, 0),
+        (false, convert(0x4000, 1), Status::InvalidAddress, 0),
         (false, HostCall::GlobalFence, Status::Success, 0),
-        (
-            false,
-            HostCall::Convert { base: 0x5000, n: 1 },
-            Status::Success,
-            0,
-        ),
+        (false, convert(0x5000, 1), Status::Success, 0),
         (false, HostCall::GlobalFence, Status::AlreadyStarted, 1),
         (true, HostCall::LocalFence, Status::Success, 0),
-        (
-            false,
-            HostCall::Reclaim { base: 0x4000, n: 1 },
-            Status::Success,
-            0,
-        ),
-        (
-            false,
-            HostCall::Reclaim { base: 0x5000, n: 1 },
-            Status::InvalidAddress,
-            0,
-        ),
+        (false, reclaim(0x4000, 1), Status::Success, 0),
+        (false, reclaim(0x5000, 1), Status::InvalidAddress, 0),
         (false, HostCall::Info, Status::NotSupported, 0),
     ];
     for (second, c, status, value) in table {

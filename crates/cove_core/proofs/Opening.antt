@@ -1,0 +1,49 @@
+-- At the opening the empty history is kept, and each hart of the board fits it.
+use Rattle.std.proofs.Common.{◌≡◌, ℕ, ◌<◌, List, [], None, get_or, length, replicate, refl, sym, subst, arith}
+use Rattle.cove_base.specs.HartPlaces.{IsPlace}
+use Rattle.cove_base.specs.Places.{all_words, count_word, epoch_word}
+use Rattle.cove_base.specs.Scripts.{ScriptValue}
+use Rattle.cove_core.specs.Kept.{IsBoard, IsKept, ProgressStands}
+use Rattle.cove_core.specs.declared.ground.Ground.{Ground}
+use Rattle.cove_model.proofs.Beginning.{replicate_zero}
+use Rattle.cove_model.proofs.OpeningStandsProofs.{opening_stands}
+use Rattle.cove_model.specs.Fits.{Fits}
+use Rattle.cove_model.specs.States.{ended_by, opening}
+use Rattle.cove_model.specs.WordsStand.{FramesStand, epoch_in}
+
+-- no hart has ended a line
+none_ended : (script : ScriptValue) (h : ℕ) → ended_by (opening script) h ≡ 0
+none_ended script h = replicate_zero script.harts h
+
+-- the first place of each hart is its place at the opening
+pub opening_progress : (script : ScriptValue) (places : List ℕ) → length places ≡ script.harts → ((h : ℕ) → h < script.harts → IsPlace script h 0 (get_or places h 0)) → ProgressStands script (opening script) places
+opening_progress script places count each = record {
+  count = count;
+  each = λ h below. subst (λ n. IsPlace script h n (get_or places h 0)) (sym (none_ended script h)) (each h below);
+}
+
+-- words of zeros, frames of the opening memory and the first places keep the empty history
+pub opening_kept : (script : ScriptValue) (ground : Ground) (places : List ℕ) → IsBoard script ground → FramesStand ground.memory (opening script) → ProgressStands script (opening script) places → IsKept script (replicate (all_words script.pages script.harts) 0) (record { ground = ground; history = []; progress = places })
+opening_kept script ground places board frames progress =
+    let n = all_words script.pages script.harts in
+    let none : epoch_in script.pages (replicate n 0) ≡ 0 = replicate_zero n (epoch_word script.pages) in
+    record {
+      board = board;
+      legal = tt;
+      cached = tt;
+      stands = opening_stands script;
+      frames = frames;
+      progress = progress;
+      count = replicate_zero n (count_word script.pages script.harts);
+      epoch = omega arith;
+    }
+
+-- a hart that has ended no line, found no page and made no walk fits
+pub opening_fits : (script : ScriptValue) (h place : ℕ) → h < script.harts → IsPlace script h 0 place → Fits script [] (record { hart = h; ended = 0; place = place; hosts = []; walked = None })
+opening_fits script h place below here = record {
+  on_board = below;
+  counts = sym (none_ended script h);
+  stands = here;
+  ring = refl;
+  walk = tt;
+}

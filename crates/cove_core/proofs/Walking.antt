@@ -1,0 +1,144 @@
+-- A walk that a hart needs, and that it goes on fitting afterwards.
+use Rattle.std.proofs.Common.{◌≡◌, ℕ, ◌<◌, Bool, true, false, cond, ◌||◌, is_some, IsTrue, List, Option, None, Some, nat_lt, eq-eqb, refl, sym, subst, ap, ◌∙◌}
+use Rattle.std.proofs.lemmas.Bool.{false≢true}
+use Rattle.std.proofs.lemmas.Option.{none-some, same_Some}
+use Rattle.cove_base.specs.HartLines.{next_line}
+use Rattle.cove_base.specs.HartPlaces.{IsPlace}
+use Rattle.cove_base.specs.HartValues.{HartValue, accessed_page, after_walk, has_walked_to}
+use Rattle.cove_base.specs.Rings.{found}
+use Rattle.cove_base.specs.Scripts.{ScriptValue, is_within_limits}
+use Rattle.cove_base.specs.declared.events.Entry.{Entry}
+use Rattle.cove_base.specs.declared.events.Walked.{Walked}
+use Rattle.cove_base.specs.declared.events.Walked.TheVariants as walks
+use Rattle.cove_base.specs.declared.numbers.Page.{Page}
+use Rattle.cove_base.specs.declared.scripts.ScriptLine.{ScriptLine}
+use Rattle.cove_base.specs.declared.walks.Noted.{Noted}
+use Rattle.cove_base.specs.declared.walks.Target.{Target}
+use Rattle.cove_base.specs.declared.walks.Target.TheVariants as targets
+use Rattle.cove_base.proofs.HartPlaceLemmas.{line_at_place}
+use Rattle.cove_core.specs.Kept.{IsKept}
+use Rattle.cove_core.specs.Reached.{IsPrepared}
+use Rattle.cove_core.specs.Walks.{IsFoundIn}
+use Rattle.cove_core.specs.declared.monitors.Mon.{Mon}
+use Rattle.cove_core.proofs.ScriptLimits.{line_page}
+use Rattle.cove_hart.specs.Needs.{access_need, line_need, next_need}
+use Rattle.cove_hart.specs.declared.needs.Need.TheVariants.{Walk, Event, Idle}
+use Rattle.cove_model.proofs.Fitting.{fits_found, fits_missing, ring_finds_page}
+use Rattle.cove_model.proofs.ToldProofs.{words_tell_host}
+use Rattle.cove_model.specs.Fits.{Fits, IsSought, UnusedFits, WalkFits, ring_of, walked_ring}
+use Rattle.cove_model.specs.Histories.{after}
+use Rattle.cove_model.specs.Owners.{has, is_host, page_at}
+use Rattle.cove_model.specs.Tlbs.{tlb}
+
+-- a walk that is needed is one to the page of the next line, which neither the ring nor an unused walk has
+pub record IsWanted (script : ScriptValue) (held : HartValue) (p : ℕ) : Type 0 where
+  pub line : ScriptLine
+  pub next : next_line script held.hart held.ended ≡ Some line
+  pub asks : accessed_page line.line ≡ Some p
+  pub lacks : found p held.hosts ≡ None
+  pub unwalked : has_walked_to held.walked p ≡ false
+
+lacking : (o : Option Page) → is_some o ≡ false → o ≡ None
+lacking None e = refl
+lacking (Some page) e = absurd (false≢true (sym e))
+
+abbrev page_number : ℕ → Page
+page_number k = record { 0 = k }
+
+pub wanted : (script : ScriptValue) (held : HartValue) (phase : ℕ) (page : Page) → next_need script held phase ≡ Walk (targets.Host page) → IsWanted script held page.0
+wanted script held phase page needed = by_line (next_line script held.hart held.ended) refl needed
+  where
+    same_walk : (p : ℕ) → Walk (targets.Host (record { 0 = p })) ≡ Walk (targets.Host page) → p ≡ page.0
+    same_walk p e = cc
+
+    by_test : (line : ScriptLine) → next_line script held.hart held.ended ≡ Some line → (p : ℕ) → accessed_page line.line ≡ Some p → (a b : Bool) → is_some (found p held.hosts) ≡ a → has_walked_to held.walked p ≡ b → cond (a || b) Event (Walk (targets.Host (record { 0 = p }))) ≡ Walk (targets.Host page) → IsWanted script held page.0
+    by_test line next p asks true b e f need = cc
+    by_test line next p asks false true e f need = cc
+    by_test line next p asks false false e f need =
+        let same = same_walk p need in
+        record {
+          line = line;
+          next = next;
+          asks = asks ∙ ap (λ k. Some k) same;
+          lacks = subst (λ k. found k held.hosts ≡ None) same (lacking (found p held.hosts) e);
+          unwalked = subst (λ k. has_walked_to held.walked k ≡ false) same f;
+        }
+
+    by_access : (line : ScriptLine) → next_line script held.hart held.ended ≡ Some line → (o : Option ℕ) → accessed_page line.line ≡ o → access_need held o ≡ Walk (targets.Host page) → IsWanted script held page.0
+    by_access line next None asks need = cc
+    by_access line next (Some p) asks need = by_test line next p asks (is_some (found p held.hosts)) (has_walked_to held.walked p) refl refl need
+
+    by_phase : (line : ScriptLine) → next_line script held.hart held.ended ≡ Some line → (late : Bool) → cond late Idle (access_need held (accessed_page line.line)) ≡ Walk (targets.Host page) → IsWanted script held page.0
+    by_phase line next true need = cc
+    by_phase line next false need = by_access line next (accessed_page line.line) refl need
+
+    by_line : (o : Option ScriptLine) → next_line script held.hart held.ended ≡ o → line_need held phase o ≡ Walk (targets.Host page) → IsWanted script held page.0
+    by_line None next need = cc
+    by_line (Some line) next need = by_phase line next (nat_lt phase line.phase) need
+
+-- the page that is wanted is one of the board
+pub wanted_below : (script : ScriptValue) → IsTrue (is_within_limits script) → (held : HartValue) (p : ℕ) → IsPlace script held.hart held.ended held.place → IsWanted script held p → p < script.pages
+wanted_below script within held p place want =
+    line_page script within held.place want.line p (line_at_place script held.hart held.ended held.place place ∙ want.next) want.asks
+
+-- ---- the hart goes on fitting
+
+unwalked_now : (script : ScriptValue) (H : List Entry) (held : HartValue) (p : ℕ) → Fits script H held → IsWanted script held p → held.walked ≡ None
+unwalked_now script H held p fits want = go held.walked fits.walk want.unwalked
+  where
+    same : (q : ℕ) → IsSought script H held.hart q → q ≡ p
+    same q is =
+        let line : is.line ≡ want.line = same_Some is.line want.line (sym is.next ∙ ap (next_line script held.hart) (sym fits.counts) ∙ want.next) in
+        same_Some q p (sym is.asks ∙ ap (λ (k : ScriptLine). accessed_page k.line) line ∙ want.asks)
+
+    unfit : (target : Target) (w : Walked) → WalkFits script H held.hart target w → has_walked_to (Some (record { target = target; walked = w })) p ≡ false → ⊥
+    unfit (targets.Host q) (walks.Found page) f off = false≢true (sym off ∙ eq-eqb q.0 p (same q.0 f.0))
+    unfit (targets.Host q) (walks.Missing word) f off = false≢true (sym off ∙ eq-eqb q.0 p (same q.0 f))
+    unfit (targets.Fetch g) w f off = f
+    unfit (targets.Access g) w f off = f
+
+    go : (noted : Option Noted) → UnusedFits script H held.hart noted → has_walked_to noted p ≡ false → noted ≡ None
+    go None f off = refl
+    go (Some noted) f off = absurd (unfit noted.target noted.walked f off)
+
+sought : (script : ScriptValue) (H : List Entry) (held : HartValue) (p : ℕ) → Fits script H held → IsWanted script held p → held.walked ≡ None → IsSought script H held.hart p
+sought script H held p fits want none =
+    let pages = (tlb script H held.hart).pages in
+    let ring : held.hosts ≡ ring_of pages = fits.ring ∙ ap (walked_ring (ring_of pages)) none in
+    record {
+      line = want.line;
+      next = ap (next_line script held.hart) (sym fits.counts) ∙ want.next;
+      asks = want.asks;
+      absent = absent_by (has p pages) (sym (ring_finds_page pages p) ∙ ap (found p) (sym ring) ∙ want.lacks);
+    }
+  where
+    absent_by : (b : Bool) → cond b (Some (page_number p)) None ≡ None → b ≡ false
+    absent_by true e = absurd (none-some (page_number p) (sym e))
+    absent_by false e = refl
+
+pub fits_walk : (script : ScriptValue) (words : List ℕ) (held : HartValue) (page : Page) (walked : Walked) → page.0 < script.pages → IsWanted script held page.0 → IsFoundIn words page.0 walked → (mon : Mon) → IsKept script words mon → Fits script mon.history held → Fits script mon.history (after_walk held (targets.Host page) walked)
+fits_walk script words held page (walks.Found q) below want finds mon kept fits =
+    let H = mon.history in
+    let none = unwalked_now script H held page.0 fits want in
+    let host : is_host (page_at (after script H).pages page.0) ≡ true = (words_tell_host script.pages script.harts words (after script H) page.0 below kept.stands.stands.owners).1 finds.1 in
+    let same : q ≡ page = ap page_number finds.0 in
+    subst (λ k. Fits script H (after_walk held (targets.Host page) (walks.Found k))) (sym same)
+    (fits_found script H held page fits none (sought script H held page.0 fits want none) host)
+fits_walk script words held page (walks.Missing word) below want finds mon kept fits =
+    let H = mon.history in
+    let none = unwalked_now script H held page.0 fits want in
+    fits_missing script H held page word fits none (sought script H held page.0 fits want none)
+
+-- ---- a hart that needs no walk
+
+-- a hart whose need is its event is prepared for it
+pub prepared_for : (script : ScriptValue) (held : HartValue) (phase : ℕ) → next_need script held phase ≡ Event → IsPrepared script held
+prepared_for script held phase need = by_line (next_line script held.hart held.ended) refl need
+  where
+    by_phase : (line : ScriptLine) → next_line script held.hart held.ended ≡ Some line → (late : Bool) → cond late Idle (access_need held (accessed_page line.line)) ≡ Event → IsPrepared script held
+    by_phase line next true need' = cc
+    by_phase line next false need' = record { line = line; next = next; ready = need' }
+
+    by_line : (o : Option ScriptLine) → next_line script held.hart held.ended ≡ o → line_need held phase o ≡ Event → IsPrepared script held
+    by_line None next need' = cc
+    by_line (Some line) next need' = by_phase line next (nat_lt phase line.phase) need'

@@ -1,0 +1,19 @@
+-- The harts of a board before any entry.
+use Rattle.std.specs.Prelude.{◌≡◌, ℕ, ◌<◌, List, [], length, IfSome, None, slice_get, slice_index}
+use Rattle.cove_base.specs.HartPlaces.{IsPlace}
+use Rattle.cove_base.specs.Scripts.{ScriptValue}
+use Rattle.cove_hart.specs.HartStates.{value_of}
+use Rattle.cove_hart.specs.declared.states.HartState.{HartState}
+
+-- the first n harts are at the places of their first lines
+abbrev pub AtFirstLines : ScriptValue → (n : ℕ) → (places : List ℕ) → Type 0
+AtFirstLines script n places = (length places ≡ n) × ((hart : ℕ) → hart < n → IsPlace script hart 0 (slice_index places hart))
+
+-- a hart has ended no line, found no page and made no walk
+pub record IsNew (script : ScriptValue) (number : ℕ) (hart : HartState) : Type 0 where
+  pub fresh : value_of hart ≡ record { hart = number; ended = 0; place = hart.place; hosts = []; walked = None }
+  pub place : IsPlace script number 0 hart.place
+
+-- each of the first n harts is new, in order
+abbrev pub AreNew : ScriptValue → (n : ℕ) → List HartState → Type 0
+AreNew script n harts = (length harts ≡ n) × ((k : ℕ) → k < n → IfSome (slice_get harts k) (IsNew script k))
