@@ -13,9 +13,9 @@ mod ground;
 mod monitors;
 mod seats;
 mod steps;
-mod walks;
 #[cfg(test)]
 mod tests;
+mod walks;
 
 pub use calls::{call, convert_pages, global_fence, local_fence, reclaim_pages};
 pub use ground::Ground;
