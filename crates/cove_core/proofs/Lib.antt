@@ -12,3 +12,4 @@ pub mod Performing
 pub mod ScriptLimits
 pub mod Walking
 pub mod Opening
+pub mod Turning

@@ -6,3 +6,4 @@ pub mod Replies
 pub mod Stepped
 pub mod Walks
 pub mod Seats
+pub mod Plays

@@ -11,6 +11,7 @@ mod accesses;
 mod calls;
 mod ground;
 mod monitors;
+mod plays;
 mod seats;
 mod steps;
 mod walks;
