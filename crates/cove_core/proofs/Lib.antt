@@ -13,3 +13,4 @@ pub mod ScriptLimits
 pub mod Walking
 pub mod Opening
 pub mod Turning
+pub mod Rounds

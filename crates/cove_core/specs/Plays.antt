@@ -1,5 +1,5 @@
 -- How the monitor and its harts play a script by turns.
-use Rattle.std.specs.Prelude.{◌≡◌, ◌≢◌, ℕ, ◌<◌, Bool, false, if◌then◌else◌, List, Option, Some, None, IfSome, length, slice_get}
+use Rattle.std.specs.Prelude.{◌≡◌, ◌≢◌, ℕ, ◌<◌, Bool, false, if◌then◌else◌, List, [], Option, Some, None, IfSome, length, slice_get}
 use Rattle.cove_base.specs.HartValues.{HartValue}
 use Rattle.cove_base.specs.Scripts.{ScriptValue}
 use Rattle.cove_base.specs.declared.events.Entry.{Entry}
@@ -8,6 +8,7 @@ use Rattle.cove_base.specs.declared.walks.Noted.{Noted}
 use Rattle.cove_core.specs.Kept.{IsKept}
 use Rattle.cove_core.specs.Reached.{is_found}
 use Rattle.cove_core.specs.declared.monitors.Mon.{Mon}
+use Rattle.cove_core.specs.declared.plays.Built.{Built}
 use Rattle.cove_hart.specs.HartStates.{value_of}
 use Rattle.cove_hart.specs.declared.states.HartState.{HartState}
 use Rattle.cove_model.specs.Fits.{Fits}
@@ -48,3 +49,17 @@ pub record AreReady (script : ScriptValue) (words : List ℕ) (mon : Mon) (harts
 pub record IsAt (mon : Mon) (harts : List HartState) (play : Play) : Type 0 where
   pub history : play.history ≡ mon.history
   pub notes : (k : ℕ) → IfSome (slice_get harts k) (λ hart. play.notes k ≡ note_of hart.walked)
+
+-- whatever play the monitor and its harts were at, they are at this play after it
+abbrev pub GoesOn : (old new : Mon) (before now : List HartState) → (Play → Play) → Type 0
+GoesOn old new before now leads = (play : Play) → IsAt old before play → IsAt new now (leads play)
+
+-- it leads each play that they are at to itself
+abbrev pub Stays : Mon → List HartState → (Play → Play) → Type 0
+Stays mon harts leads = (play : Play) → IsAt mon harts play → leads play ≡ play
+
+-- A monitor and its harts before any turn.
+pub record IsFresh (script : ScriptValue) (built : Built) : Type 0 where
+  pub ready : AreReady script built.words built.mon built.harts
+  pub unplayed : built.mon.history ≡ []
+  pub unwalked : (k : ℕ) → IfSome (slice_get built.harts k) (λ hart. hart.walked ≡ None)

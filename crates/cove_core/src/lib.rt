@@ -21,6 +21,7 @@ mod tests;
 pub use calls::{call, convert_pages, global_fence, local_fence, reclaim_pages};
 pub use ground::Ground;
 pub use monitors::{Mon, Progress};
+pub use plays::{Built, play};
 pub use seats::Harts;
 pub use steps::{Stepped, event_step};
 pub use walks::walk_step;
