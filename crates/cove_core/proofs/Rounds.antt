@@ -1,11 +1,9 @@
 -- Turns one after another, and rounds of them.
-use Rattle.std.proofs.Common.{◌≡◌, ◌≢◌, ℕ, zero, suc, ◌+◌, ◌-◌, ◌<◌, ◌≤◌, ◌⊎◌, Bool, true, false, IsTrue, List, [], ◌∷◌, ◌++◌, Option, None, Some, IfSome, inl, inr, fold, get_or, is_some, length, set, slice_get, refl, sym, subst, ap, ◌∙◌, arith}
+use Rattle.std.proofs.Common.{◌≡◌, ℕ, zero, suc, ◌+◌, ◌<◌, ◌⊎◌, Bool, true, false, List, [], ◌∷◌, ◌++◌, Option, None, Some, IfSome, inl, inr, fold, get_or, is_some, length, set, slice_get, refl, sym, subst, ap, ◌∙◌, arith}
 use Rattle.std.specs.List.{AllByRecursion, range_with_len}
 use Rattle.std.proofs.lemmas.Bool.{cases_eq, false≢true}
 use Rattle.std.proofs.lemmas.List.{length-set}
-use Rattle.cove_base.specs.HartValues.{HartValue}
 use Rattle.cove_base.specs.Scripts.{ScriptValue}
-use Rattle.cove_base.specs.declared.events.Entry.{Entry}
 use Rattle.cove_base.specs.declared.limits.TheConstants.{ENTRY_LIMIT}
 use Rattle.cove_core.specs.Kept.{IsKept}
 use Rattle.cove_core.specs.Plays.{AreReady, GoesOn, IsAt, IsSeated, IsTurn, IsTurned, Stays, note_of}
@@ -13,7 +11,6 @@ use Rattle.cove_core.specs.declared.monitors.Mon.{Mon}
 use Rattle.cove_hart.specs.HartStates.{value_of}
 use Rattle.cove_hart.specs.declared.states.HartState.{HartState}
 use Rattle.cove_model.proofs.OneHart.{rounds_stay}
-use Rattle.cove_model.specs.Fits.{Fits}
 use Rattle.cove_model.specs.Played.{Play, Unwalked, enough, played, round, rounds, turn, unplayed}
 use Rattle.cove_model.specs.States.{harts_below}
 

@@ -1,5 +1,5 @@
 -- What a hart does in its turn is the turn of each play that has its history and its note.
-use Rattle.std.proofs.Common.{◌≡◌, ◌≢◌, ℕ, ◌<◌, ◌≤◌, Bool, true, false, cond, ◌||◌, ◌⊎◌, nat_lt, is_some, IsTrue, IsSome, IfSome, IfNone, arith, List, [], ◌∷◌, ◌++◌, Option, None, Some, inl, inr, ◌↔◌, length, get_or, slice_get, refl, sym, subst, ap, ◌∙◌}
+use Rattle.std.proofs.Common.{◌≡◌, ℕ, ◌<◌, ◌≤◌, Bool, true, false, cond, ◌||◌, ◌⊎◌, nat_lt, is_some, IsTrue, IsSome, IfSome, IfNone, arith, List, [], ◌∷◌, ◌++◌, Option, None, Some, inl, inr, ◌↔◌, length, get_or, slice_get, refl, sym, subst, ap, ◌∙◌}
 use Rattle.std.proofs.lemmas.Bool.{cases_lt, false≢true, ltb-true}
 use Rattle.std.proofs.lemmas.Option.{same_Some}
 use Rattle.cove_base.proofs.HartPlaceLemmas.{line_at_place}
@@ -26,7 +26,7 @@ use Rattle.cove_base.specs.declared.walks.Noted.{Noted}
 use Rattle.cove_base.specs.declared.walks.Target.TheVariants as targets
 use Rattle.cove_core.proofs.Performing.{absent_now, not_true, reached_rightly, told_rightly, walk_is}
 use Rattle.cove_core.proofs.ScriptLimits.{board_limits, line_page}
-use Rattle.cove_core.proofs.Walking.{IsWanted, sought, unwalked_now, wanted, wanted_below}
+use Rattle.cove_core.proofs.Walking.{sought, unwalked_now, wanted, wanted_below}
 use Rattle.cove_core.specs.Kept.{IsKept}
 use Rattle.cove_core.specs.Made.{IsMade, IsTold, IsWithinReach}
 use Rattle.cove_core.specs.Plays.{IsTurn, IsTurned, note_of}
@@ -47,9 +47,9 @@ use Rattle.cove_model.specs.Cached.{IsReached}
 use Rattle.cove_model.specs.Cached.{Reaches as IsRight}
 use Rattle.cove_model.specs.Fits.{Fits}
 use Rattle.cove_model.specs.Histories.{EachEntry, Legal, after}
-use Rattle.cove_model.specs.Offers.{Behind, Next, Nothing, Offer, first_behind, offer, offer_of, unless_behind}
+use Rattle.cove_model.specs.Offers.{Next, first_behind, offer, offer_of, unless_behind}
 use Rattle.cove_model.specs.Owners.{has, is_host, page_at}
-use Rattle.cove_model.specs.Played.{Choice, Faults, Found, Missing, Note, Play, Succeeds, Unwalked, Walks, choice, choice_at, entered, entry_by, line_turn, load_turn, noted, offer_turn, store_turn, turn, walked}
+use Rattle.cove_model.specs.Played.{Choice, Faults, Found, Missing, Note, Play, Succeeds, Unwalked, choice, choice_at, entered, entry_by, line_turn, load_turn, noted, offer_turn, store_turn, turn, walked}
 use Rattle.cove_model.specs.States.{State, ended_by, page_of}
 use Rattle.cove_model.specs.Steps.{Answers, IsDue, asked}
 use Rattle.cove_model.specs.Tlbs.{tlb}
@@ -202,11 +202,11 @@ made_turned script within words now mon new kept held left fits prepared room en
         let reached = each_last (λ before e. IsReached script before e.hart.0 e.event) [] mon.history entry cached in
         let allows = made.step.0 in
         let is = turn_open ENTRY_LIMIT script (record { history = mon.history; notes = notes }) held.hart room
-              ∙ entered_turn script within mon.history kept.legal words kept.stands held fits prepared notes mine entry.event
-                (subst (λ k. IsDue script (after script mon.history) k (asked entry.event)) made.by allows.0)
-                (subst (λ k. Answers (after script mon.history) k entry.event) made.by allows.1)
-                (subst (λ k. IsReached script mon.history k entry.event) made.by reached)
-                made.told in
+        ∙ entered_turn script within mon.history kept.legal words kept.stands held fits prepared notes mine entry.event
+        (subst (λ k. IsDue script (after script mon.history) k (asked entry.event)) made.by allows.0)
+        (subst (λ k. Answers (after script mon.history) k entry.event) made.by allows.1)
+        (subst (λ k. IsReached script mon.history k entry.event) made.by reached)
+        made.told in
         let same : mon.history ++ entry_by held.hart entry.event ∷ [] ≡ new.history = ap (λ k. mon.history ++ entry_of_hart k ∷ []) (sym made.by) ∙ sym made.grown in
         turn_by script (record { history = mon.history; notes = notes }) held.hart new.history Unwalked left.walked
         (is ∙ ap (λ K. as_play K (noted held.hart Unwalked notes)) same) (sym (ap note_of used))
@@ -255,7 +255,7 @@ walk_turned script within words mon kept held left fits phase is_walked l next r
         let offers = offered script S held.hart l (ap (next_line script held.hart) (sym fits.counts) ∙ next) none_behind in
         let asks : accessed_page l.line ≡ Some p = ap (λ (k : ScriptLine). accessed_page k.line) same ∙ want.asks in
         let is = turn_open ENTRY_LIMIT script play held.hart room ∙ ap (offer_turn script play S held.hart) offers
-              ∙ walk_line script play S held.hart p l.line asks sought_it.absent (mine ∙ ap note_of none) in
+        ∙ walk_line script play S held.hart p l.line asks sought_it.absent (mine ∙ ap note_of none) in
         let tells = found_rightly words (is_host (page_at S.pages p)) p is_walked.walked is_walked.finds (words_tell_host script.pages script.harts words S p below kept.stands.stands.owners) in
         turn_by script play held.hart mon.history (cond (is_host (page_at S.pages p)) Found Missing) left.walked is
         (ap (λ b. cond b Found Missing) tells ∙ sym (ap (λ (v : HartValue). note_of v.walked) is_walked.left_is))
@@ -288,8 +288,8 @@ over_turned script H held fits none = stays_turned script H held fits (λ play e
     stays : (play : Play) → play.history ≡ H → offer_turn script play (after script play.history) held.hart (offer script (after script play.history) held.hart) ≡ play
     stays play e =
         let next : next_line script held.hart (ended_by (after script play.history) held.hart) ≡ None =
-            ap (λ K. next_line script held.hart (ended_by (after script K) held.hart)) e ∙ ap (next_line script held.hart) (sym fits.counts)
-            ∙ sym (line_at_place script held.hart held.ended held.place fits.stands) ∙ none in
+        ap (λ K. next_line script held.hart (ended_by (after script K) held.hart)) e ∙ ap (next_line script held.hart) (sym fits.counts)
+        ∙ sym (line_at_place script held.hart held.ended held.place fits.stands) ∙ none in
         ap (λ o. offer_turn script play (after script play.history) held.hart (offer_of script (after script play.history) o)) next
 
 -- another hart is behind
@@ -299,7 +299,7 @@ behind_turned script H held fits l here other behind = stays_turned script H hel
     stays : (play : Play) → play.history ≡ H → offer_turn script play (after script play.history) held.hart (offer script (after script play.history) held.hart) ≡ play
     stays play e =
         let next : next_line script held.hart (ended_by (after script play.history) held.hart) ≡ Some l =
-            ap (λ K. next_line script held.hart (ended_by (after script K) held.hart)) e ∙ ap (next_line script held.hart) (sym fits.counts) ∙ here in
+        ap (λ K. next_line script held.hart (ended_by (after script K) held.hart)) e ∙ ap (next_line script held.hart) (sym fits.counts) ∙ here in
         ap (λ o. offer_turn script play (after script play.history) held.hart (offer_of script (after script play.history) o)) next
         ∙ ap (λ o. offer_turn script play (after script play.history) held.hart (unless_behind o l.line)) (ap (λ K. first_behind script (after script K) l.phase) e ∙ behind)
 

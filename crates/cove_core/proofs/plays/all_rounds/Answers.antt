@@ -1,11 +1,7 @@
-use Rattle.std.proofs.Common.{◌≡◌, ◌≢◌, ℕ, ◌+◌, ◌-◌, ◌<◌, ◌≤◌, ◌↔◌, suc, false, true, IsTrue, Some, fold, take, get_or, length, set, slice_get, refl, sym, subst, ap, ◌∙◌, arith}
-use Rattle.std.proofs.lemmas.Bool.{false≢true}
+use Rattle.std.proofs.Common.{◌+◌, ◌-◌, ap, arith}
 use Rattle.cove_base.specs.declared.limits.TheConstants.{ENTRY_LIMIT}
 use Rattle.cove_base.specs.Scripts.{ScriptValue}
-use Rattle.cove_core.specs.Plays.{AreReady, GoesOn, IsAt, Stays}
-use Rattle.cove_hart.specs.declared.states.HartState.{HartState}
-use Rattle.cove_model.specs.Played.{IsOver, enough, played, turn}
-use Rattle.cove_model.specs.States.{harts_below}
+use Rattle.cove_model.specs.Played.{enough}
 use Rattle.cove_core.proofs.Rounds.{way_begins, way_ends, way_on, way_stays}
 use Rattle.cove_core.proofs.plays.all_rounds.Goals as goal
 

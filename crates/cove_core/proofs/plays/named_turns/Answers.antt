@@ -1,11 +1,8 @@
-use Rattle.std.proofs.Common.{◌≡◌, ◌≢◌, ℕ, ◌+◌, ◌-◌, ◌<◌, ◌≤◌, ◌↔◌, suc, false, true, IsTrue, Some, fold, take, ◌++◌, ◌∷◌, [], get_or, length, set, slice_get, refl, sym, subst, ap, ◌∙◌, arith}
-use Rattle.std.proofs.lemmas.Bool.{false≢true}
+use Rattle.std.proofs.Common.{◌≡◌, ◌+◌, ◌<◌, fold, take, ◌++◌, ◌∷◌, [], get_or, length, subst, ap, ◌∙◌, arith}
 use Rattle.cove_base.specs.declared.limits.TheConstants.{ENTRY_LIMIT}
 use Rattle.cove_base.specs.Scripts.{ScriptValue}
-use Rattle.cove_core.specs.Plays.{AreReady, GoesOn, IsAt, Stays}
-use Rattle.cove_hart.specs.declared.states.HartState.{HartState}
-use Rattle.cove_model.specs.Played.{IsOver, enough, played, turn}
-use Rattle.cove_model.specs.States.{harts_below}
+use Rattle.cove_core.specs.Plays.{GoesOn}
+use Rattle.cove_model.specs.Played.{turn}
 use Rattle.std.proofs.lemmas.List.{take_all, take_more}
 use Rattle.cove_core.proofs.Rounds.{one_more, turn_within}
 use Rattle.cove_model.proofs.WithinLimits.{limits_of}
@@ -31,7 +28,7 @@ loop-i-preserved c =
     let i = c.loop-i.i in
     let k = get_or c.as_slice-turns.result.now i 0 in
     let more : take (i + 1) script.turns ≡ take i script.turns ++ k ∷ [] =
-        take_more script.turns i 0 (omega (arith, c.loop-i-test.true)) ∙ ap (λ hs. take i script.turns ++ get_or hs i 0 ∷ []) same in
+    take_more script.turns i 0 (omega (arith, c.loop-i-test.true)) ∙ ap (λ hs. take i script.turns ++ get_or hs i 0 ∷ []) same in
     (c.turn_of.ensures.ready, one_more script c.args.mon.now c.loop-i.mon c.turn_of.new.mon c.args.harts.now c.loop-i.harts c.turn_of.new.harts (take i script.turns) (take (i + 1) script.turns) k more c.loop-i.invariant.1 c.turn_of.ensures.played)
 
 pub returns-clause-played : goal.returns-clause-played

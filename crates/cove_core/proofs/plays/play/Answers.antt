@@ -1,11 +1,5 @@
-use Rattle.std.proofs.Common.{◌≡◌, ◌≢◌, ℕ, ◌+◌, ◌-◌, ◌<◌, ◌≤◌, ◌↔◌, suc, false, true, IsTrue, Some, fold, take, get_or, length, set, slice_get, refl, sym, subst, ap, ◌∙◌, arith}
-use Rattle.std.proofs.lemmas.Bool.{false≢true}
-use Rattle.cove_base.specs.declared.limits.TheConstants.{ENTRY_LIMIT}
-use Rattle.cove_base.specs.Scripts.{ScriptValue}
-use Rattle.cove_core.specs.Plays.{AreReady, GoesOn, IsAt, Stays}
-use Rattle.cove_hart.specs.declared.states.HartState.{HartState}
-use Rattle.cove_model.specs.Played.{IsOver, enough, played, turn}
-use Rattle.cove_model.specs.States.{harts_below}
+use Rattle.std.proofs.Common.{◌↔◌, IsTrue, subst, arith}
+use Rattle.cove_model.specs.Played.{IsOver}
 use Rattle.cove_core.proofs.Rounds.{plays_all}
 use Rattle.cove_core.proofs.ScriptLimits.{board_limits}
 use Rattle.cove_core.proofs.plays.play.Goals as goal

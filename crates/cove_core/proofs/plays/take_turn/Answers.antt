@@ -1,17 +1,9 @@
-use Rattle.std.proofs.Common.{◌≡◌, ℕ, ◌<◌, ◌≤◌, true, false, cond, Option, None, Some, IfSome, IsTrue, length, slice_get, refl, sym, subst, ap, ◌∙◌, arith}
+use Rattle.std.proofs.Common.{◌≡◌, Some, slice_get, sym, ◌∙◌, arith}
 use Rattle.cove_base.proofs.HartPlaceLemmas.{line_at_place}
-use Rattle.cove_base.specs.HartLines.{next_line}
-use Rattle.cove_base.specs.HartValues.{HartValue, accessed_page}
-use Rattle.cove_base.specs.Scripts.{ScriptValue}
-use Rattle.cove_base.specs.declared.limits.TheConstants.{ENTRY_LIMIT}
-use Rattle.cove_base.specs.declared.numbers.HartId.{HartId}
-use Rattle.cove_base.specs.declared.scripts.ScriptLine.{ScriptLine}
 use Rattle.cove_core.proofs.ScriptLimits.{board_limits}
 use Rattle.cove_core.proofs.Turning.{behind_of, idle_never, kept_words, made_at, none_of, over_turned, walk_turned}
 use Rattle.cove_core.proofs.Walking.{prepared_for}
 use Rattle.cove_hart.specs.HartStates.{value_of}
-use Rattle.cove_hart.specs.Needs.{next_need}
-use Rattle.cove_hart.specs.declared.needs.Need.TheVariants.{Event, Idle}
 use Rattle.cove_core.proofs.plays.take_turn.Goals as goal
 
 pub returns-in_default-clause-turned : goal.returns-in_default-clause-turned

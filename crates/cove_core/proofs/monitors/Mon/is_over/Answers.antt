@@ -16,7 +16,7 @@ returns-then-is_some c =
     let harts = ap (λ (s : ScriptValue). s.harts) c.script.view_is in
     let below : k < script.harts = omega (arith, c.loop-k-test.true) in
     let is : c.line_at.result ≡ next_line script k (ended_by S k) =
-        c.line_at.ensures.line ∙ ap (slice_get script.lines) c.place.ensures ∙ line_at_place script k (ended_by S k) (get_or c.args.self.now.progress k 0) (c.requires.progress.each k below) in
+    c.line_at.ensures.line ∙ ap (slice_get script.lines) c.place.ensures ∙ line_at_place script k (ended_by S k) (get_or c.args.self.now.progress k 0) (c.requires.progress.each k below) in
     (λ e. absurd (false≢true e), λ over. absurd (some_is_none c.line_at.result (sym c.is_some.ensures ∙ c.if-is_some.true) (is ∙ over k below)))
 
 pub loop-k-preserved : goal.loop-k-preserved
@@ -27,5 +27,5 @@ loop-k-preserved c =
     let harts = ap (λ (s : ScriptValue). s.harts) c.script.view_is in
     let below : k < script.harts = omega (arith, c.loop-k-test.true) in
     let is : c.line_at.result ≡ next_line script k (ended_by S k) =
-        c.line_at.ensures.line ∙ ap (slice_get script.lines) c.place.ensures ∙ line_at_place script k (ended_by S k) (get_or c.args.self.now.progress k 0) (c.requires.progress.each k below) in
+    c.line_at.ensures.line ∙ ap (slice_get script.lines) c.place.ensures ∙ line_at_place script k (ended_by S k) (get_or c.args.self.now.progress k 0) (c.requires.progress.each k below) in
     below_more (λ j. next_line script j (ended_by S j) ≡ None) k c.loop-k.invariant (sym is ∙ is_nothing c.line_at.result (sym c.is_some.ensures ∙ c.if-is_some.false))
