@@ -14,3 +14,5 @@ pub mod Walking
 pub mod Opening
 pub mod Turning
 pub mod Rounds
+pub mod FillLemmas
+pub mod Building

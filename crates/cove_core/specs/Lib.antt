@@ -1,3 +1,4 @@
+pub mod Bytes
 pub mod Called
 pub mod Kept
 pub mod Made

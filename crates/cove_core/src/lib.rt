@@ -9,7 +9,9 @@
 //! script plays. It stands on the laws of `cove_model`, and on the owners, fences, frames and rings below it.
 
 mod accesses;
+mod builds;
 mod calls;
+mod fills;
 mod ground;
 mod monitors;
 mod plays;
@@ -19,7 +21,9 @@ mod steps;
 mod tests;
 mod walks;
 
+pub use builds::build;
 pub use calls::{call, convert_pages, global_fence, local_fence, reclaim_pages};
+pub use fills::opening_memory;
 pub use ground::Ground;
 pub use monitors::{Mon, Progress};
 pub use plays::{Built, play};
