@@ -12,3 +12,7 @@ pub mod Performing
 pub mod ScriptLimits
 pub mod Walking
 pub mod Opening
+pub mod Turning
+pub mod Rounds
+pub mod FillLemmas
+pub mod Building

@@ -167,7 +167,7 @@ has_brought p pages =
     has_last (length (pages ++ p ∷ []) - ring_room) p pages (omega arith)
 
 module _ (script : ScriptValue) (limits : Limits script) (H : List Entry) (legal : Legal script H) (words : List ℕ) (stand : Stand script.pages script.harts words (after script H)) (held : HartValue) (fits : Fits script H held) (l : ScriptLine) (next : next_line script held.hart held.ended ≡ Some l) (p : ℕ) (asks : accessed_page l.line ≡ Some p) where
-  walk_is : (finding : Bool) → HasWalked held.walked finding → IsWalkFor script H held.hart p held.hosts (ring_of (tlb script H held.hart).pages) finding
+  pub walk_is : (finding : Bool) → HasWalked held.walked finding → IsWalkFor script H held.hart p held.hosts (ring_of (tlb script H held.hart).pages) finding
   walk_is finding walked = walk_for script H held.hart held.ended fits.counts l next p asks held.hosts finding held.walked walked fits.walk fits.ring
 
   -- a walk that found none left the ring without the page

@@ -83,7 +83,7 @@ wanted_below script within held p place want =
 
 -- ---- the hart goes on fitting
 
-unwalked_now : (script : ScriptValue) (H : List Entry) (held : HartValue) (p : ℕ) → Fits script H held → IsWanted script held p → held.walked ≡ None
+pub unwalked_now : (script : ScriptValue) (H : List Entry) (held : HartValue) (p : ℕ) → Fits script H held → IsWanted script held p → held.walked ≡ None
 unwalked_now script H held p fits want = go held.walked fits.walk want.unwalked
   where
     same : (q : ℕ) → IsSought script H held.hart q → q ≡ p
@@ -101,7 +101,7 @@ unwalked_now script H held p fits want = go held.walked fits.walk want.unwalked
     go None f off = refl
     go (Some noted) f off = absurd (unfit noted.target noted.walked f off)
 
-sought : (script : ScriptValue) (H : List Entry) (held : HartValue) (p : ℕ) → Fits script H held → IsWanted script held p → held.walked ≡ None → IsSought script H held.hart p
+pub sought : (script : ScriptValue) (H : List Entry) (held : HartValue) (p : ℕ) → Fits script H held → IsWanted script held p → held.walked ≡ None → IsSought script H held.hart p
 sought script H held p fits want none =
     let pages = (tlb script H held.hart).pages in
     let ring : held.hosts ≡ ring_of pages = fits.ring ∙ ap (walked_ring (ring_of pages)) none in

@@ -1,3 +1,4 @@
+pub mod Bytes
 pub mod Called
 pub mod Kept
 pub mod Made
@@ -6,3 +7,4 @@ pub mod Replies
 pub mod Stepped
 pub mod Walks
 pub mod Seats
+pub mod Plays

@@ -81,6 +81,8 @@ impl Mon {
     ghost use Rattle.cove_core.specs.Kept.{ProgressStands};
     ghost use Rattle.cove_model.specs.Histories.{after};
     ghost use Rattle.cove_model.specs.Offers.{first_behind};
+    ghost use Rattle.cove_model.specs.Played.{IsOver};
+    ghost use Rattle.std.specs.Prelude.{◌↔◌};
 
     /// The first hart that has a line of an earlier phase than this one left.
     pub fn first_behind(&self, script: &Script, phase: u32) -> Option<HartId>
@@ -95,6 +97,20 @@ impl Mon {
             }
         }
         None
+    }
+
+    /// Whether no line is left.
+    pub fn is_over(&self, script: &Script) -> bool
+        requires progress { ProgressStands script.now (after script.now self.now.history) self.now.progress }
+        requires few { script.now.harts < 256 }
+        ensures { IsTrue result ↔ IsOver script.now self.now.history }
+    {
+        for k in 0..script.harts {
+            if line_at(script, self.progress.place(HartId(k))).is_some() {
+                return false;
+            }
+        }
+        true
     }
 }
 

@@ -11,7 +11,7 @@ use std::marker::Model;
 /// The harts of a board, in the order of their numbers.
 #[derive(Drop)]
 pub struct Harts {
-    harts: Vec<HartState>,
+    pub(crate) harts: Vec<HartState>,
 }
 
 impl Model for Harts {

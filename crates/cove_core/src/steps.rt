@@ -1,6 +1,6 @@
 //! One entry of a hart.
 
-ghost use Rattle.std.specs.Prelude.{◌≡◌, ◌↔◌, ◌+◌, ◌<◌, ◌≤◌, ◌++◌, ◌∷◌, [], IfSome, IsSome, IsTrue, true, length, slice_get, slice_set};
+ghost use Rattle.std.specs.Prelude.{◌≡◌, ◌↔◌, ◌+◌, ◌<◌, ◌≤◌, ◌++◌, ◌∷◌, [], IfSome, IsSome, IsTrue, None, true, length, slice_get, slice_set};
 ghost use Rattle.cove_base.specs.Guards.{guard_after};
 ghost use Rattle.cove_base.specs.Places.{count_word};
 ghost use Rattle.cove_base.specs.Scripts.{is_within_limits};
@@ -48,6 +48,7 @@ pub fn event_step<W: Words>(
     ensures guard { OnDid result (λ place. IfSome (slice_get mon.new.history place) (λ entry.
         W.guard w.new ≡ guard_after (W.guard w.old) (W.words w.new) entry)) }
     ensures clean { OnDid result (λ _. W.clean w.new ≡ true) }
+    ensures used { OnDid result (λ _. hart.new.walked ≡ None) }
     ensures limit { IsLimit result ↔ (ENTRY_LIMIT ≤ length mon.old.history) }
     ensures ahead { OnAhead result (λ other. IsBehind script.now mon.old.history (value_of hart.old) other.0) }
     ensures due { OnDid result (λ _. IsFirst script.now mon.old.history (value_of hart.old)) }
@@ -81,6 +82,7 @@ fn enter<W: Words>(w: &mut W, mon: &mut Mon, script: &Script, hart: &mut HartSta
     ensures grown { mon.new.history ≡ mon.old.history ++ (record { hart = hart.old.hart; event = event }) ∷ [] }
     ensures hart { hart.new.hart ≡ hart.old.hart }
     ensures hosts { hart.new.hosts ≡ hart.old.hosts }
+    ensures used { hart.new.walked ≡ None }
     ensures words { W.words w.new
         ≡ slice_set (W.words w.old) (count_word script.now.pages script.now.harts) (length mon.old.history + 1) }
     ensures clean { W.clean w.new ≡ true }

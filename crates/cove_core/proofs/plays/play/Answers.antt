@@ -1,0 +1,18 @@
+use Rattle.std.proofs.Common.{◌↔◌, IsTrue, subst, arith}
+use Rattle.cove_model.specs.Played.{IsOver}
+use Rattle.cove_core.proofs.Rounds.{plays_all}
+use Rattle.cove_core.proofs.ScriptLimits.{board_limits}
+use Rattle.cove_core.proofs.plays.play.Goals as goal
+
+pub is_over-requires-clause-few : goal.is_over-requires-clause-few
+is_over-requires-clause-few c = omega (arith, (board_limits c.args.script.now c.within_limits.ensures).harts)
+
+pub returns-clause-history : goal.returns-clause-history
+returns-clause-history c =
+    plays_all c.args.script.now c.args.built.now.mon c.named_turns.new.mon c.all_rounds.new.mon c.args.built.now.harts c.named_turns.new.harts c.all_rounds.new.harts c.requires.unplayed c.requires.unwalked c.named_turns.ensures.played c.all_rounds.ensures.played
+
+pub returns-clause-whole : goal.returns-clause-whole
+returns-clause-whole c =
+    let script = c.args.script.now in
+    let history = plays_all script c.args.built.now.mon c.named_turns.new.mon c.all_rounds.new.mon c.args.built.now.harts c.named_turns.new.harts c.all_rounds.new.harts c.requires.unplayed c.requires.unwalked c.named_turns.ensures.played c.all_rounds.ensures.played in
+    subst (λ H. IsTrue c.is_over.result ↔ IsOver script H) history c.is_over.ensures
