@@ -4,9 +4,13 @@ ghost use Rattle.cove_model.specs.States.{State};
 ghost use Rattle.cove_model.specs.WordLaws.{Stand};
 ghost use Rattle.cove_model.specs.WordsStand.{FramesStand, epoch_in};
 
-use crate::{Ground, call};
-use cove_base::{HartId, HostCall, Plain, Reply, Status, all_words};
+use crate::{Ground, build, call, play};
+use cove_base::{
+    Bytes, Fills, HartId, HostCall, Line, Lines, NoMemory, Plain, Reply, Script, ScriptLine,
+    Status, Turns, all_words,
+};
 use cove_mem::Memory;
+use std::alloc::Global;
 use std::test::Fail;
 
 fn hart_of(second: bool) -> HartId
@@ -67,5 +71,49 @@ fn calls_of_two_harts_are_answered_in_turn(rt: HostRuntime) -> Result<(), Fail> 
             Reply { status, value }
         );
     }
+    Ok(())
+}
+
+// Hart 1 fences in the first phase, and hart 0 stores and loads in the second.
+fn script(alloc: Global) -> Result<Script, NoMemory> {
+    let mut key = Bytes::new(alloc);
+    key.push(0)?;
+    let mut lines = Lines::new(alloc);
+    lines.push(ScriptLine {
+        hart: HartId(1),
+        phase: 0,
+        line: Line::Call(HostCall::LocalFence),
+    })?;
+    lines.push(ScriptLine {
+        hart: HartId(0),
+        phase: 2,
+        line: Line::Store {
+            addr: 0x5008,
+            value: 7,
+        },
+    })?;
+    lines.push(ScriptLine {
+        hart: HartId(0),
+        phase: 2,
+        line: Line::Load { addr: 0x5008 },
+    })?;
+    Ok(Script {
+        pages: 16,
+        harts: 2,
+        files: 0,
+        key,
+        fills: Fills::new(alloc),
+        lines,
+        turns: Turns::new(alloc),
+    })
+}
+
+#[test]
+fn a_script_is_built_and_played(rt: HostRuntime) -> Result<(), Fail> {
+    let alloc = rt.alloc();
+    let script = script(alloc)?;
+    let mut built = build(alloc, &script)?;
+    assert_eq!(rt; play(&mut built, &script), true);
+    assert_eq!(rt; built.mon.history.len(), 3);
     Ok(())
 }
