@@ -1,0 +1,12 @@
+use Rattle.std.proofs.Common.{◌≤◌, take}
+use Rattle.std.specs.Io.KnownBytes.{Appends}
+use Rattle.std.specs.Prelude.{flat_map}
+use Rattle.cove_model.specs.Reports.{ended_line, entry_line}
+use Rattle.cove_sched.proofs.printing.print_journal.Given as goal
+
+-- the sink took the lines of the entries so far
+abbrev pub invariant-loop-entry : goal.invariant-loop-entry
+invariant-loop-entry g l = record {
+  count : g.K.Sink.count l.fn.sink ≤ g.K.Sink.count l.sink;
+  taken : Appends (g.K.Sink.taken l.fn.sink) (g.K.Sink.taken l.sink) (flat_map (λ entry. ended_line (entry_line entry)) (take l.entry-index l.entries));
+}
