@@ -1,6 +1,2 @@
-pub mod FirstScript
-pub mod History
-pub mod Machine
-pub mod PageWords
-pub mod Runs
+pub mod Printing
 pub mod TopCall

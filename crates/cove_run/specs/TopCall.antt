@@ -1,16 +1,19 @@
 -- What the top call reads and prints.
-use Rattle.std.specs.Prelude.{◌≡◌, ℕ, ◌+◌, ◌≤◌, ◌⊎◌, List, [], ◌∷◌, ◌++◌, length, Option, Some, None, codes}
+use Rattle.std.specs.Prelude.{◌≡◌, ℕ, ◌+◌, ◌≤◌, ◌⊎◌, List, length, Option, Result, Ok, Err}
 use Rattle.std.specs.Io.KnownBytes.{Consumes, IsAtEnd}
 use Rattle.cove_base.specs.Scripts.{ScriptValue}
 use Rattle.cove_base.specs.declared.events.Entry.{Entry}
+use Rattle.cove_base.specs.declared.faults.Kind.TheVariants.{TooLong}
+use Rattle.cove_base.specs.declared.faults.ScriptFault.{ScriptFault}
 use Rattle.cove_base.specs.declared.limits.TheConstants.{ENTRY_LIMIT, SCRIPT_LIMIT}
 use Rattle.cove_io.specs.Ends.{TakesExactly}
 use Rattle.cove_model.specs.Cached.{IsCached, IsQuiet}
-use Rattle.cove_model.specs.Follows.{Follows}
+use Rattle.cove_model.specs.Follows.{Begins}
+use Rattle.cove_model.specs.Grammar.{script_of, fault_at}
 use Rattle.cove_model.specs.Histories.{Legal}
-use Rattle.cove_model.specs.Played.{played}
-use Rattle.cove_model.specs.Reports.{report}
-use Rattle.cove_run.specs.FirstScript.{first_script}
+use Rattle.cove_model.specs.Played.{IsOver, played}
+use Rattle.cove_model.specs.Reports.{report, report_limit}
+use Rattle.cove_run.specs.Printing.{refusal_line}
 
 -- these bytes were read, to their end; a script has no more
 pub record ReadsWhole (old new : Option (List ℕ)) (bytes : List ℕ) : Type 0 where
@@ -18,15 +21,11 @@ pub record ReadsWhole (old new : Option (List ℕ)) (bytes : List ℕ) : Type 0 
   pub at_end : IsAtEnd new
   pub within : length bytes ≤ SCRIPT_LIMIT
 
--- what was read spells this script, or none: it spells no script, or has a byte more than a script may have
-abbrev pub Reads : (old new : Option (List ℕ)) → Option ScriptValue → Type 0
+-- what was read spells this script, or has this fault; a byte more than a script may have is one
+abbrev pub Reads : (old new : Option (List ℕ)) → Result ScriptValue ScriptFault → Type 0
 Reads old new found =
-    ((bytes : List ℕ) × ReadsWhole old new bytes × (first_script bytes ≡ found))
-    ⊎ (TakesExactly (SCRIPT_LIMIT + 1) old new × (found ≡ None))
-
--- the line that refuses an input
-abbrev pub refusal_line : List ℕ
-refusal_line = codes "refused 0 NotBuilt" ++ 10 ∷ []
+    ((bytes : List ℕ) × ReadsWhole old new bytes × (script_of SCRIPT_LIMIT bytes ≡ found))
+    ⊎ (TakesExactly (SCRIPT_LIMIT + 1) old new × (found ≡ Err (fault_at 0 TooLong)))
 
 -- the history that a script plays
 abbrev pub history_of : ScriptValue → List Entry
@@ -36,11 +35,13 @@ history_of script = played ENTRY_LIMIT script
 -- them, and in which no page changes hands while a TLB names it
 pub record IsHistoryOf (script : ScriptValue) (history : List Entry) : Type 0 where
   pub legal : Legal script history
-  pub follows : Follows script history
+  pub begins : Begins script history
   pub cached : IsCached script history
   pub quiet : IsQuiet script history
 
--- the text that is printed where this script was read, or none
-abbrev pub printed : Option ScriptValue → List ℕ
-printed None = refusal_line
-printed (Some script) = report (history_of script)
+-- the text that is printed where this script was read, or its fault
+abbrev pub Prints : Result ScriptValue ScriptFault → (text : List ℕ) → Type 0
+Prints (Ok script) text =
+    (IsOver script (history_of script) × (text ≡ report (history_of script)))
+    ⊎ ((IsOver script (history_of script) → ⊥) × (text ≡ report_limit (history_of script)))
+Prints (Err fault) text = text ≡ refusal_line fault

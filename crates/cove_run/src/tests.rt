@@ -4,12 +4,23 @@ use cove_io::{MemSink, MemSource, NullSink, SureSource};
 use std::alloc::{AllocError, Global};
 use std::test::Fail;
 
-const FIRST: &[u8] = b"board 16 1 0\n0 convert 0x4000 1\n0 gfence\n0 reclaim 0x4000 1\nend\n";
+const FIRST: &[u8] =
+    b"board 16 1 0\n0 convert 0x4000 1\n0 gfence\n0 reclaim 0x4000 1\n0 ld 0x4000\nend\n";
 
 const FIRST_LINE: &[u8] = b"0 convert 0x4000 0x1 = 0 0x0\n";
 
 const JOURNAL: &[u8] =
-    b"0 convert 0x4000 0x1 = 0 0x0\n0 gfence = 0 0x0\n0 reclaim 0x4000 0x1 = 0 0x0\nend 3\n";
+    b"0 convert 0x4000 0x1 = 0 0x0\n0 gfence = 0 0x0\n0 reclaim 0x4000 0x1 = 0 0x0\n0 ld 0x4000 walk 0000000000000000\nend 4\n";
+
+const STALE: &[u8] =
+    b"board 16 2 0\nfill 0x4000 1122334455667788\n0 convert 0x4000 1\n0 ld 0x4000\n1 ld 0x4000\n1 ld 0x4000\nturns 1 1 0 1 0 0\nend\n";
+
+const STALE_JOURNAL: &[u8] =
+    b"1 ld 0x4000 walk 8877665544332211\n0 convert 0x4000 0x1 = 0 0x0\n1 ld 0x4000 hit 8877665544332211\n0 ld 0x4000 walk fault\nend 4\n";
+
+const PHASES: &[u8] = b"board 16 2 0\n0 gfence\nphase\n1 lfence\nphase\n0 gfence\nend\n";
+
+const PHASES_JOURNAL: &[u8] = b"0 gfence = 0 0x0\n1 lfence = 0 0x0\n0 gfence = 0 0x0\nend 3\n";
 
 fn bytes_of(alloc: Global, items: &[u8]) -> Result<Bytes, NoMemory> {
     let mut bytes = Bytes::new(alloc);
@@ -35,20 +46,25 @@ fn words_of(alloc: Global, texts: &[&str]) -> Result<Vec<String>, AllocError> {
 fn texts_and_their_journals(rt: HostRuntime) -> Result<(), Fail> {
     let alloc = rt.alloc();
     let words = words_of(alloc, &["sched"])?;
-    let refused: (&[u8], u8) = (b"refused 0 NotBuilt\n", 3);
-    let table: [(&[u8], (&[u8], u8)); 12] = [
+    let table: [(&[u8], (&[u8], u8)); 9] = [
         (FIRST, (JOURNAL, 0)),
+        (STALE, (STALE_JOURNAL, 0)),
+        (PHASES, (PHASES_JOURNAL, 0)),
         (b"board 16 1 0\nend\n", (b"end 0\n", 0)),
-        (b"board 1024 1 0\nend\n", (b"end 0\n", 0)),
-        (b"board 1025 1 0\nend\n", refused),
-        (b"board 16 1 0\n0 fly\nend\n", refused),
-        (b"board 16 1 0\n0 gfence\n", refused),
-        (b"", refused),
-        (b"board 16 1 0\n1 gfence\nend\n", refused),
-        (b"board 16 1 0\n0  gfence\nend\n", refused),
-        (b"board 16 1 0\n0 gfence \nend\n", refused),
-        (b"board 16 1 0\n0 gfence\nend", refused),
-        (b"board 16 1 0\n0 lfence\nend\n", refused),
+        (
+            b"board 16 1 0\n0 info\nend\n",
+            (b"0 info = -2 0x0\nend 1\n", 0),
+        ),
+        (
+            b"board 16 1 0\n0 fly\nend\n",
+            (b"refused 2 UnknownWord\n", 3),
+        ),
+        (b"board 16 1 0\n0 gfence\n", (b"refused 3 NoEnd\n", 3)),
+        (b"", (b"refused 1 NoEnd\n", 3)),
+        (
+            b"board 16 1 0\n1 gfence\nend\n",
+            (b"refused 2 OutOfBoard\n", 3),
+        ),
     ];
     for (text, (journal, status)) in table {
         let mut source = SureSource::new(bytes_of(alloc, text)?);

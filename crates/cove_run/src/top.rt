@@ -1,19 +1,22 @@
 //! The top call: from the bytes of a script to the bytes of its journal.
 
-ghost use Rattle.std.specs.Prelude.{◌≡◌, ◌≢◌, ◌<◌, ◌≤◌, ◌⊎◌, ◌↔◌, true, false, Some, None, length, IsSome};
+ghost use Rattle.std.specs.Prelude.{◌≡◌, ◌<◌, ◌^◌, ◌≤◌, ◌⊎◌, ◌↔◌, IsTrue, IfOk, true, false, Some, None, Ok, Err, List, ℕ, length};
 ghost use Rattle.std.specs.Io.KnownBytes.{Appends};
 ghost use Rattle.cove_base.specs.Scripts.{ScriptValue};
 ghost use Rattle.cove_io.specs.Ends.{AppendsFront, Rose};
 ghost use Rattle.cove_model.specs.Commands.{accepts};
-ghost use Rattle.cove_model.specs.Reports.{report};
-ghost use Rattle.cove_run.specs.FirstScript.{IsFirst, first_script};
-ghost use Rattle.cove_run.specs.TopCall.{IsHistoryOf, Reads, history_of, printed, refusal_line};
+ghost use Rattle.cove_model.specs.Follows.{Follows};
+ghost use Rattle.cove_model.specs.Grammar.{script_of};
+ghost use Rattle.cove_model.specs.Played.{IsOver};
+ghost use Rattle.cove_model.specs.Reports.{report, report_limit};
+ghost use Rattle.cove_run.specs.Printing.{AreWritable, refusal_line};
+ghost use Rattle.cove_run.specs.TopCall.{IsHistoryOf, Prints, Reads, history_of};
 
-use crate::first_script::first_script;
-use crate::history::history_of;
-use crate::print::print;
-use cove_base::{NoMemory, SCRIPT_LIMIT, Script};
-use cove_io::{Failed, ReadError, Sink, Source, read_all, write_all};
+use crate::printing::{print_journal, print_refusal};
+use cove_base::{ENTRY_LIMIT, History, Kind, NoMemory, SCRIPT_LIMIT, Script, ScriptFault};
+use cove_core::{build, play};
+use cove_io::{Failed, ReadError, Sink, Source, read_all};
+use cove_script::{ParseError, parse};
 use std::alloc::Global;
 
 /// What the program prints on standard error where its words name no command.
@@ -31,6 +34,9 @@ const BAD_WORDS: u8 = 2;
 /// The input is no script.
 const REFUSED: u8 = 3;
 
+/// The history came to its limit before all lines were made; what was made is printed.
+const AT_LIMIT: u8 = 4;
+
 /// The source met a fault.
 const SOURCE_FAULT: u8 = 5;
 
@@ -39,7 +45,8 @@ const SINK_FAULT: u8 = 6;
 
 /// Runs a command: `sched` reads a script, runs it by turns, and prints its journal. The words are looked at
 /// first; then the input is read to its end, or to one byte more than a script may have; then it is parsed; then
-/// the steps are made; then the text is written, each line as one piece. It answers the program's exit status.
+/// all memory is taken; then the steps are made; then the text is written, each line as one piece. It answers the
+/// program's exit status.
 pub fn tsm_alone<S: Source, K: Sink>(
     alloc: Global,
     words: &[String],
@@ -53,30 +60,41 @@ pub fn tsm_alone<S: Source, K: Sink>(
     // The printed journal is that of the one history that the script plays. It is legal, makes each hart's lines
     // once and in order, and no page changes hands in it while a translation of a hart names it.
     ensures done { result ≡ 0 → (script : ScriptValue)
-        × Reads (S.left source.old) (S.left source.new) (Some script)
+        × Reads (S.left source.old) (S.left source.new) (Ok script)
         × Appends (K.taken sink.old) (K.taken sink.new) (report (history_of script))
-        × IsHistoryOf script (history_of script) }
+        × IsHistoryOf script (history_of script) × Follows script (history_of script) }
 
-    // What spells no script is refused by one line.
-    ensures refused { result ≡ 3 → Reads (S.left source.old) (S.left source.new) None
-        × Appends (K.taken sink.old) (K.taken sink.new) refusal_line }
+    // The same where the history came to its limit before a line was made.
+    ensures limit { result ≡ 4 → (script : ScriptValue)
+        × Reads (S.left source.old) (S.left source.new) (Ok script)
+        × Appends (K.taken sink.old) (K.taken sink.new) (report_limit (history_of script))
+        × IsHistoryOf script (history_of script)
+        × (length (history_of script) ≡ ENTRY_LIMIT) × (IsOver script (history_of script) → ⊥) }
+
+    // What is no script is refused by one line, which names its first fault.
+    ensures refused { result ≡ 3 → (fault : _) × Reads (S.left source.old) (S.left source.new) (Err fault)
+        × Appends (K.taken sink.old) (K.taken sink.new) (refusal_line fault) }
 
     // Faults come from outside alone, and the sink then holds a front of the text that else stood.
     ensures memory { result ≡ 1 → sink.new ≡ sink.old }
     ensures source_fault { result ≡ 5 → Rose (S.count source.old) (S.count source.new) × (sink.new ≡ sink.old) }
     ensures sink_fault { result ≡ 6 → Rose (K.count sink.old) (K.count sink.new)
-        × ((found : _) × Reads (S.left source.old) (S.left source.new) found
-        × AppendsFront (K.taken sink.old) (K.taken sink.new) (printed found)) }
+        × ((found : _) × ((text : List ℕ) × Reads (S.left source.old) (S.left source.new) found
+        × Prints found text × AppendsFront (K.taken sink.old) (K.taken sink.new) text)) }
 
-    // No other status comes, and without faults and with memory it tells whether the input is a script.
+    // No other status comes, and without faults and with memory it tells what the input is.
     ensures statuses { result < 7 }
-    ensures no_limit { result ≢ 4 }
-    ensures script_runs { (bytes : _) (script : ScriptValue) → S.left source.old ≡ Some bytes
-        → accepts words.now ≡ true → length bytes ≤ SCRIPT_LIMIT → first_script bytes ≡ Some script
+    ensures script_ends { (bytes : _) (script : ScriptValue) → S.left source.old ≡ Some bytes
+        → accepts words.now ≡ true → script_of SCRIPT_LIMIT bytes ≡ Ok script → IsOver script (history_of script)
         → ¬ Rose (S.count source.old) (S.count source.new) → ¬ Rose (K.count sink.old) (K.count sink.new)
         → (result ≡ 0) ⊎ (result ≡ 1) }
-    ensures other_is_refused { (bytes : _) → S.left source.old ≡ Some bytes
-        → accepts words.now ≡ true → (SCRIPT_LIMIT < length bytes) ⊎ (first_script bytes ≡ None)
+    ensures script_stops { (bytes : _) (script : ScriptValue) → S.left source.old ≡ Some bytes
+        → accepts words.now ≡ true → script_of SCRIPT_LIMIT bytes ≡ Ok script
+        → (IsOver script (history_of script) → ⊥)
+        → ¬ Rose (S.count source.old) (S.count source.new) → ¬ Rose (K.count sink.old) (K.count sink.new)
+        → (result ≡ 4) ⊎ (result ≡ 1) }
+    ensures other_is_refused { (bytes : _) (fault : _) → S.left source.old ≡ Some bytes
+        → accepts words.now ≡ true → script_of SCRIPT_LIMIT bytes ≡ Err fault
         → ¬ Rose (S.count source.old) (S.count source.new) → ¬ Rose (K.count sink.old) (K.count sink.new)
         → (result ≡ 3) ⊎ (result ≡ 1) }
 {
@@ -86,13 +104,24 @@ pub fn tsm_alone<S: Source, K: Sink>(
     let text = match read_all(alloc, source, SCRIPT_LIMIT) {
         Ok(text) => text,
         Err(ReadError::Failed) => return SOURCE_FAULT,
-        Err(ReadError::TooLong) => return refuse(sink),
+        Err(ReadError::TooLong) => {
+            return refuse(
+                ScriptFault {
+                    line: 0,
+                    kind: Kind::TooLong,
+                },
+                sink,
+            );
+        }
         Err(ReadError::Memory) => return NO_MEMORY,
     };
-    match first_script(alloc, text.as_slice()) {
-        Ok(Some(script)) => run(alloc, &script, sink),
-        Ok(None) => refuse(sink),
-        Err(NoMemory) => NO_MEMORY,
+    match parse(alloc, text.as_slice()) {
+        Ok(script) => {
+            played_facts(&script);
+            run(alloc, &script, sink)
+        }
+        Err(ParseError::Refused(fault)) => refuse(fault, sink),
+        Err(ParseError::Memory) => NO_MEMORY,
     }
 }
 
@@ -107,13 +136,13 @@ fn accepts(words: &[String]) -> bool
 }
 
 // Prints the one line that refuses an input.
-fn refuse<K: Sink>(sink: &mut K) -> u8
-    ensures refused { result ≡ 3 → Appends (K.taken sink.old) (K.taken sink.new) refusal_line }
+fn refuse<K: Sink>(fault: ScriptFault, sink: &mut K) -> u8
+    ensures refused { result ≡ 3 → Appends (K.taken sink.old) (K.taken sink.new) (refusal_line fault) }
     ensures sink_fault { result ≡ 6 → Rose (K.count sink.old) (K.count sink.new)
-        × AppendsFront (K.taken sink.old) (K.taken sink.new) refusal_line }
+        × AppendsFront (K.taken sink.old) (K.taken sink.new) (refusal_line fault) }
     ensures statuses { (result ≡ 3) ⊎ (result ≡ 6) }
 {
-    match write_all(sink, b"refused 0 NotBuilt\n") {
+    match print_refusal(fault, sink) {
         Ok(()) => REFUSED,
         Err(Failed) => SINK_FAULT,
     }
@@ -121,18 +150,58 @@ fn refuse<K: Sink>(sink: &mut K) -> u8
 
 // Runs a script, and prints its journal.
 fn run<K: Sink>(alloc: Global, script: &Script, sink: &mut K) -> u8
-    requires { IsFirst script.now }
-    ensures done { result ≡ 0 → Appends (K.taken sink.old) (K.taken sink.new) (report (history_of script.now)) }
+    ensures done { result ≡ 0 → IsOver script.now (history_of script.now)
+        × Appends (K.taken sink.old) (K.taken sink.new) (report (history_of script.now)) }
+    ensures limit { result ≡ 4 → (IsOver script.now (history_of script.now) → ⊥)
+        × Appends (K.taken sink.old) (K.taken sink.new) (report_limit (history_of script.now)) }
     ensures memory { result ≡ 1 → sink.new ≡ sink.old }
     ensures sink_fault { result ≡ 6 → Rose (K.count sink.old) (K.count sink.new)
-        × AppendsFront (K.taken sink.old) (K.taken sink.new) (report (history_of script.now)) }
-    ensures statuses { (result ≡ 0) ⊎ ((result ≡ 1) ⊎ (result ≡ 6)) }
+        × ((text : List ℕ) × Prints (Ok script.now) text × AppendsFront (K.taken sink.old) (K.taken sink.new) text) }
+    ensures statuses { (result ≡ 0) ⊎ ((result ≡ 1) ⊎ ((result ≡ 4) ⊎ (result ≡ 6))) }
 {
-    let Ok(history) = history_of(alloc, script) else {
+    let Ok((history, is_whole)) = play_out(alloc, script) else {
         return NO_MEMORY;
     };
-    match print(&history, sink) {
-        Ok(()) => DONE,
+    print_whole(&history, is_whole, script, sink)
+}
+
+// Prints the journal of the history that a script plays.
+fn print_whole<K: Sink>(history: &History, is_whole: bool, script: &Script, sink: &mut K) -> u8
+    requires history { history.now ≡ history_of script.now }
+    requires whole { IsTrue is_whole ↔ IsOver script.now (history_of script.now) }
+    ensures done { result ≡ 0 → IsOver script.now (history_of script.now)
+        × Appends (K.taken sink.old) (K.taken sink.new) (report (history_of script.now)) }
+    ensures limit { result ≡ 4 → (IsOver script.now (history_of script.now) → ⊥)
+        × Appends (K.taken sink.old) (K.taken sink.new) (report_limit (history_of script.now)) }
+    ensures sink_fault { result ≡ 6 → Rose (K.count sink.old) (K.count sink.new)
+        × ((text : List ℕ) × Prints (Ok script.now) text × AppendsFront (K.taken sink.old) (K.taken sink.new) text) }
+    ensures statuses { (result ≡ 0) ⊎ ((result ≡ 4) ⊎ (result ≡ 6)) }
+{
+    played_facts(script);
+    match print_journal(history, is_whole, sink) {
+        Ok(()) if is_whole => DONE,
+        Ok(()) => AT_LIMIT,
         Err(Failed) => SINK_FAULT,
     }
+}
+
+// What holds of the history that a script plays.
+fn played_facts(script: &Script)
+    ensures history { IsHistoryOf script.now (history_of script.now) }
+    ensures follows { IsOver script.now (history_of script.now) → Follows script.now (history_of script.now) }
+    ensures full { (IsOver script.now (history_of script.now) → ⊥) → length (history_of script.now) ≡ ENTRY_LIMIT }
+    ensures writable { AreWritable (history_of script.now) }
+    ensures few { length (history_of script.now) < 2 ^ 32 }
+{
+    let _pages = script.pages;
+}
+
+// The history that a script plays, and whether every line is ended.
+fn play_out(alloc: Global, script: &Script) -> Result<(History, bool), NoMemory>
+    ensures history { IfOk result (λ found. found.0 ≡ history_of script.now) }
+    ensures whole { IfOk result (λ found. IsTrue found.1 ↔ IsOver script.now (history_of script.now)) }
+{
+    let mut built = build(alloc, script)?;
+    let is_whole = play(&mut built, script);
+    Ok((built.mon.history, is_whole))
 }

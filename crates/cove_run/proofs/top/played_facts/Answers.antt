@@ -2,9 +2,9 @@ use Rattle.std.proofs.Common.{◌≤◌, length, subst, arith, IsTrue}
 use Rattle.cove_base.specs.Scripts.{ScriptValue, is_within_limits}
 use Rattle.cove_base.specs.declared.limits.TheConstants.{ENTRY_LIMIT}
 use Rattle.cove_model.proofs.Progress.{played_size}
-use Rattle.cove_sched.specs.TopCall.{history_of}
-use Rattle.cove_sched.proofs.HistoryLemmas.{is_history, follows_whole, full_else, legal_writable}
-use Rattle.cove_sched.proofs.top.played_facts.Goals as goal
+use Rattle.cove_run.specs.TopCall.{history_of}
+use Rattle.cove_run.proofs.HistoryLemmas.{is_history, follows_whole, full_else, legal_writable}
+use Rattle.cove_run.proofs.top.played_facts.Goals as goal
 
 pub returns-clause-history : goal.returns-clause-history
 returns-clause-history c = is_history c.args.script.now (subst (λ (s : ScriptValue). IsTrue (is_within_limits s)) c.script.view_is c.script.invariant)

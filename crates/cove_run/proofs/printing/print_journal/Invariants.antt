@@ -2,7 +2,7 @@ use Rattle.std.proofs.Common.{◌≤◌, take}
 use Rattle.std.specs.Io.KnownBytes.{Appends}
 use Rattle.std.specs.Prelude.{flat_map}
 use Rattle.cove_model.specs.Reports.{ended_line, entry_line}
-use Rattle.cove_sched.proofs.printing.print_journal.Given as goal
+use Rattle.cove_run.proofs.printing.print_journal.Given as goal
 
 -- the sink took the lines of the entries so far
 abbrev pub invariant-loop-entry : goal.invariant-loop-entry

@@ -5,7 +5,7 @@ ghost use Rattle.std.specs.Io.KnownBytes.{Appends};
 ghost use Rattle.cove_io.specs.Ends.{AppendsFront, Rose};
 ghost use Rattle.cove_journal.specs.Lines.{is_writable, last_line_of};
 ghost use Rattle.cove_model.specs.Reports.{ended_line, entry_line, journal};
-ghost use Rattle.cove_sched.specs.Printing.{AreWritable, kind_text, refusal_line};
+ghost use Rattle.cove_run.specs.Printing.{AreWritable, kind_text, refusal_line};
 
 use cove_base::{Entry, History, Kind, ScriptFault};
 use cove_io::{Failed, Sink, write_all};

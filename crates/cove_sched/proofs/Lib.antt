@@ -1,3 +1,0 @@
-pub mod HistoryLemmas
-pub mod PrintLemmas
-pub mod TopLemmas
