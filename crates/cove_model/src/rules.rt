@@ -1,0 +1,19 @@
+ghost use Rattle.cove_model.specs.BoardRule.{CountsKeepRule, FittingHartsLive, ListsKeepRule, LiveWalksWereRight, StoresKeepRule};
+
+/// The store law. While a hart is held, each lawful store that it makes, and each list of them, keeps what holds of
+/// every other hart: each page that the ring of that hart names, or that its unused walk found, is one that it may use
+/// by the words, or that was the host's since its last entry. So does the store of the count, for an entry that may be
+/// made. It runs no code.
+pub fn store_law()
+    ensures store { StoresKeepRule }
+    ensures stores { ListsKeepRule }
+    ensures count { CountsKeepRule }
+{}
+
+/// The law of the boundary between two entries, where no store is pending: a hart that fits the history names by its
+/// ring, and by an unused walk, only pages that it may use by the words; and the walk of a hart of which the rule holds
+/// found a page that was the host's. It runs no code.
+pub fn boundary_law()
+    ensures fitting { FittingHartsLive }
+    ensures walks { LiveWalksWereRight }
+{}
