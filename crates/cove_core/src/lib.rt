@@ -15,6 +15,7 @@ mod fills;
 mod ground;
 mod monitors;
 mod plays;
+mod rules;
 mod seats;
 mod steps;
 #[cfg(test)]
@@ -27,6 +28,7 @@ pub use fills::opening_memory;
 pub use ground::Ground;
 pub use monitors::{Mon, Progress};
 pub use plays::{Built, play};
+pub use rules::kept_law;
 pub use seats::Harts;
 pub use steps::{Stepped, event_step};
 pub use walks::walk_step;

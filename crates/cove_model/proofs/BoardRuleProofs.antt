@@ -26,7 +26,7 @@ use Rattle.cove_model.proofs.StoreLawProofs.{stores_keep_answers, stores_keep_ep
 use Rattle.cove_model.proofs.ToldProofs.{words_tell_host}
 use Rattle.cove_model.proofs.Usable.{held_since, usable}
 use Rattle.cove_model.proofs.WithinLimits.{Limits, limits_of}
-use Rattle.cove_model.specs.BoardRule.{AreBounded, CountsKeepRule, FittingHartsLive, IsLive, IsMonitored, ListsKeepRule, LiveWalksWereRight, StoresKeepRule, UnusedLives, WalkLives}
+use Rattle.cove_model.specs.BoardRule.{AreBounded, CountsKeepRule, FindsPage, FittingHartsLive, FittingHartsUse, HasFound, IsLive, IsMonitored, ListsKeepRule, LiveWalksWereRight, StoresKeepRule, UnusedLives, WalkLives}
 use Rattle.cove_model.specs.Cached.{IsReached, WasHost}
 use Rattle.cove_model.specs.Fits.{Fits, UnusedFits, WalkFits, ring_of, walked_ring}
 use Rattle.cove_model.specs.Histories.{after}
@@ -286,6 +286,25 @@ module _ (script : ScriptValue) (limits : Limits script) (history : List Entry) 
     walk = unused_lives held.hart fits.on_board held.walked fits.walk;
     ring = fits.ring;
   }
+
+  -- the page of an unused walk
+  walk_named : (h p : ℕ) → h < script.harts → (target : Target) (w : Walked) → WalkFits script history h target w → FindsPage target w p → (p < script.pages) × MayUse script.pages words h p
+  walk_named h p on (targets.Host q) (walks.Found page) fits same = subst (λ k. (k < script.pages) × MayUse script.pages words h k) same (found_lives h q.0 on fits.2)
+  walk_named h p on (targets.Host q) (walks.Missing word) fits same = absurd same
+  walk_named h p on (targets.Fetch g) w fits same = absurd same
+  walk_named h p on (targets.Access g) w fits same = absurd same
+
+  unused_named : (h p : ℕ) → h < script.harts → (noted : Option Noted) → UnusedFits script history h noted → HasFound noted p → (p < script.pages) × MayUse script.pages words h p
+  unused_named h p on None fits same = absurd same
+  unused_named h p on (Some noted) fits same = walk_named h p on noted.target noted.walked fits same
+
+pub fitting_harts_use : FittingHartsUse
+fitting_harts_use script history words held p within part fits named =
+    let limits = limits_of script within in
+    ⊎_elim
+    (λ ring. (live_of script limits history words part held fits).usable p ring)
+    (λ walk. unused_named script limits history words part held.hart p fits.on_board held.walked fits.walk walk)
+    named
 
 pub fitting_harts_live : FittingHartsLive
 fitting_harts_live script history words held within part fits = live_of script (limits_of script within) history words part held fits

@@ -53,6 +53,21 @@ abbrev pub UnusedLives : ScriptValue → (history : List Entry) (words : List �
 UnusedLives script history words hart None = Unit {0}
 UnusedLives script history words hart (Some noted) = WalkLives script history words hart noted.target noted.walked
 
+-- a walk that was not used yet found this page
+abbrev pub FindsPage : Target → Walked → (p : ℕ) → Type 0
+FindsPage (Host q) (Found page) p = q.0 ≡ p
+FindsPage (Host q) (Missing word) p = ⊥
+FindsPage (Fetch g) walked p = ⊥
+FindsPage (Access g) walked p = ⊥
+
+abbrev pub HasFound : Option Noted → (p : ℕ) → Type 0
+HasFound None p = ⊥
+HasFound (Some noted) p = FindsPage noted.target noted.walked p
+
+-- a hart names a page by its ring, or by a walk that it has not used yet
+abbrev pub Names : HartValue → (p : ℕ) → Type 0
+Names held p = IsSome (found p held.hosts) ⊎ HasFound held.walked p
+
 -- The part of a hart of the board, by what it holds. Each page that its ring names is one of the board that the hart
 -- may use by the words: it is the host's, or in conversion, and the hart has answered no later epoch. Its ring is its
 -- translations with the page of an unused walk.
@@ -101,6 +116,13 @@ FittingHartsLive =
     (script : ScriptValue) (history : List Entry) (words : List ℕ) (held : HartValue)
     → IsTrue (is_within_limits script) → IsMonitored script history words words
     → Fits script history held → IsLive script history words held
+
+-- So each page that such a hart names, by its ring or by an unused walk, is one of the board that it may use.
+abbrev pub FittingHartsUse : Type 0
+FittingHartsUse =
+    (script : ScriptValue) (history : List Entry) (words : List ℕ) (held : HartValue) (p : ℕ)
+    → IsTrue (is_within_limits script) → IsMonitored script history words words
+    → Fits script history held → Names held p → (p < script.pages) × MayUse script.pages words held.hart p
 
 -- And a walk of a hart of which it holds was right: the page that it found was the host's at a moment since the
 -- hart's last entry, also where it was made while another hart stored.
