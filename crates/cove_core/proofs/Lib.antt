@@ -17,3 +17,4 @@ pub mod Rounds
 pub mod FillLemmas
 pub mod Building
 pub mod KeptRuleProofs
+pub mod FenceScripts

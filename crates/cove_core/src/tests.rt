@@ -1,4 +1,4 @@
-ghost use Rattle.std.specs.Prelude.{◌≡◌, ◌+◌, ◌<◌, ◌≤◌, [], ◌∷◌, IfOk, IsTrue};
+ghost use Rattle.std.specs.Prelude.{◌≡◌, ◌+◌, ◌<◌, ◌≤◌, [], ◌∷◌, IfOk, IsTrue, replicate};
 ghost use Rattle.cove_base.specs.Scripts.{is_within_limits};
 ghost use Rattle.cove_base.specs.declared.limits.TheConstants.{ENTRY_LIMIT};
 ghost use Rattle.cove_model.specs.States.{State};
@@ -7,8 +7,8 @@ ghost use Rattle.cove_model.specs.WordsStand.{FramesStand, epoch_in};
 
 use crate::{Ground, build, call, play};
 use cove_base::{
-    Bytes, Event, Fill, Fills, HartId, History, HostCall, How, Line, Lines, NoMemory, Plain, Reply,
-    Script, ScriptLine, Status, Turns, all_words,
+    Bytes, ENTRY_LIMIT, Event, Fill, Fills, HartId, History, HostCall, How, Line, Lines, NoMemory,
+    Plain, Reply, Script, ScriptLine, Status, Turns, all_words,
 };
 use cove_mem::Memory;
 use std::alloc::Global;
@@ -384,5 +384,53 @@ fn scripts_play_their_histories(rt: HostRuntime) -> Result<(), Fail> {
         )?,
         None
     );
+    Ok(())
+}
+
+// So many global fences of one hart.
+fn fences(alloc: Global, count: u32) -> Result<Script, NoMemory> {
+    let mut key = Bytes::new(alloc);
+    key.push(0)?;
+    let lines = fence_lines(alloc, count)?;
+    Ok(Script {
+        pages: 16,
+        harts: 1,
+        files: 0,
+        key,
+        fills: Fills::new(alloc),
+        lines,
+        turns: Turns::new(alloc),
+    })
+}
+
+fn fence_lines(alloc: Global, count: u32) -> Result<Lines, NoMemory>
+    ensures { IfOk result (λ lines. lines
+        ≡ replicate count (record { hart = record { 0 = 0 }; phase = 0; line = Line.Call HostCall.GlobalFence })) }
+{
+    let mut lines = Lines::new(alloc);
+    for _ in 0..count {
+        lines.push(call_of(0, HostCall::GlobalFence))?;
+    }
+    Ok(lines)
+}
+
+#[test]
+fn a_play_ends_at_the_limit(rt: HostRuntime) -> Result<(), Fail> {
+    let alloc = rt.alloc();
+    let last = Wanted::Call(HostCall::GlobalFence, Status::Success, 0);
+    for (count, whole) in [(ENTRY_LIMIT, true), (ENTRY_LIMIT + 1, false)] {
+        let script = fences(alloc, count)?;
+        let mut built = build(alloc, &script)?;
+        assert_eq!(rt; play(&mut built, &script), whole);
+        assert_eq!(rt; built.mon.history.len(), ENTRY_LIMIT as usize);
+        assert_eq!(rt;
+            built
+                .mon
+                .history
+                .get(99_999)
+                .map(|entry| told(&entry.event)),
+            Some(last)
+        );
+    }
     Ok(())
 }
