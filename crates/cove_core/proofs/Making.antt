@@ -25,6 +25,7 @@ use Rattle.cove_core.specs.Stepped.{IsBehind}
 use Rattle.cove_core.specs.declared.ground.Ground.{Ground}
 use Rattle.cove_core.specs.declared.monitors.Mon.{Mon}
 use Rattle.cove_core.proofs.Clearing.{clear_other, clear_own}
+use Rattle.cove_core.proofs.Entering.{countable}
 use Rattle.cove_core.proofs.Events.{IsRightly, call_rightly, load_done, load_rightly, load_told, store_frames, store_rightly, store_stands, store_told}
 use Rattle.cove_core.proofs.Performing.{absent_now, reached_rightly, told_rightly}
 use Rattle.cove_core.proofs.ScriptLimits.{board_limits, line_page}
@@ -208,7 +209,7 @@ module _ (script : ScriptValue) (within : IsTrue (is_within_limits script)) (wor
         told = did.told;
         clear = clear_own script limits H e legal held.hart left (ring ∙ performed.ring ∙ ap (λ (t : Tlb). ring_of t.pages) (sym (tlb_same script H e held.hart refl))) used;
         others_clear = λ other ne old. clear_other script limits H e legal other (λ q. ne (sym q)) old;
-        stores = (now, did.lawful, stores);
+        stores = (now, did.lawful, countable script now (record { ground = ground; history = mon.history; progress = mon.progress }) (record held { hosts = hosts }) event performed, stores);
       }
 
 -- ---- the next line of a hart, by its place

@@ -1,9 +1,11 @@
 -- What a history that is kept says of the shared words and of each hart that fits it.
-use Rattle.std.specs.Prelude.{ℕ, ◌<◌, ◌≤◌, IsTrue, List, length}
+use Rattle.std.specs.Prelude.{◌≢◌, ℕ, ◌<◌, ◌≤◌, IsTrue, List, length}
 use Rattle.cove_base.specs.HartValues.{HartValue}
 use Rattle.cove_base.specs.Scripts.{ScriptValue, is_within_limits}
+use Rattle.cove_base.specs.declared.events.Entry.{Entry}
 use Rattle.cove_base.specs.declared.limits.TheConstants.{ENTRY_LIMIT}
 use Rattle.cove_core.specs.Kept.{IsKept}
+use Rattle.cove_core.specs.Made.{IsMade}
 use Rattle.cove_core.specs.declared.monitors.Mon.{Mon}
 use Rattle.cove_model.specs.BoardRule.{AreBounded, IsLive, IsMonitored, Names}
 use Rattle.cove_model.specs.Fits.{Fits}
@@ -35,3 +37,11 @@ KeptHartsUse =
     (script : ScriptValue) (words : List ℕ) (mon : Mon) (held : HartValue) (p : ℕ)
     → IsTrue (is_within_limits script) → IsKept script words mon
     → Fits script mon.history held → Names held p → (p < script.pages) × MayUse script.pages words held.hart p
+
+-- An entry of a hart leaves the part of every other hart, also of one that made its walk meanwhile.
+abbrev pub StepsKeepLive : Type 0
+StepsKeepLive =
+    (script : ScriptValue) (before now : List ℕ) (old new : Mon) (held left other : HartValue) (entry : Entry)
+    → length old.history < ENTRY_LIMIT → IsKept script before old
+    → IsMade script before now old new held left entry → other.hart ≢ held.hart
+    → IsLive script old.history before other → IsLive script new.history now other

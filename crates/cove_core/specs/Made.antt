@@ -18,6 +18,7 @@ use Rattle.cove_model.specs.BoardRule.{HasFound}
 use Rattle.cove_model.specs.Cached.{IsCached, IsReached}
 use Rattle.cove_model.specs.Fits.{Fits, ring_of}
 use Rattle.cove_model.specs.Histories.{Legal, after}
+use Rattle.cove_model.specs.LawfulCounts.{IsCountable}
 use Rattle.cove_model.specs.LawfulStores.{MakesLawful}
 use Rattle.cove_model.specs.Owners.{holder, page_at}
 use Rattle.cove_model.specs.States.{ended_by, page_of}
@@ -69,11 +70,12 @@ IsClear script before entry held =
     → holder (page_at (after script (before ++ entry ∷ [])).pages p) ≢ holder (page_at (after script before).pages p)
     → (found p held.hosts ≡ None) × (HasFound held.walked p → ⊥)
 
--- The stores of an entry: lawful ones of its hart, and then that of the count.
-abbrev pub StoresAndCounts : ScriptValue → (hart count : ℕ) (before now : List ℕ) → Type 0
-StoresAndCounts script hart count before now =
+-- The stores of an entry of a hart: lawful ones, and then that of the count, on words on which it may be counted.
+abbrev pub StoresAndCounts : ScriptValue → (history : List Entry) (hart : ℕ) → Entry → (before now : List ℕ) → Type 0
+StoresAndCounts script history hart entry before now =
     (stored : List ℕ) × MakesLawful script.pages script.harts no_tables hart before before stored
-    × (now ≡ slice_set stored (count_word script.pages script.harts) (count + 1))
+    × IsCountable script history hart stored entry
+    × (now ≡ slice_set stored (count_word script.pages script.harts) (length history + 1))
 
 -- The entry of a hart, made and counted.
 pub record IsMade (script : ScriptValue) (before now : List ℕ) (old new : Mon) (held left : HartValue) (entry : Entry) : Type 0 where
@@ -88,7 +90,7 @@ pub record IsMade (script : ScriptValue) (before now : List ℕ) (old new : Mon)
   -- no ring and no unused walk names a page whose holder changed
   pub clear : IsClear script old.history entry left
   pub others_clear : (other : HartValue) → other.hart ≢ held.hart → Fits script old.history other → IsClear script old.history entry other
-  pub stores : StoresAndCounts script held.hart (length old.history) before now
+  pub stores : StoresAndCounts script old.history held.hart entry before now
 
 -- what stands beside the words after the entry at a place was counted
 pub record IsCounted (history : List Entry) (place : ℕ) (guard_before guard_now : Option Guard) (now : List ℕ) (clean : Bool) (entry : Entry) : Type 0 where

@@ -1,4 +1,4 @@
-use Rattle.cove_core.proofs.KeptRuleProofs.{kept_harts_live, kept_harts_use, kept_is_bounded, kept_is_monitored}
+use Rattle.cove_core.proofs.KeptRuleProofs.{kept_harts_live, kept_harts_use, kept_is_bounded, kept_is_monitored, steps_keep_live}
 use Rattle.cove_core.proofs.rules.kept_law.Goals as goal
 
 pub returns-clause-monitored : goal.returns-clause-monitored
@@ -12,3 +12,6 @@ returns-clause-live c = kept_harts_live
 
 pub returns-clause-usable : goal.returns-clause-usable
 returns-clause-usable c = kept_harts_use
+
+pub returns-clause-steps : goal.returns-clause-steps
+returns-clause-steps c = steps_keep_live
