@@ -1,5 +1,5 @@
 -- A history that is kept follows the board's rule.
-use Rattle.std.proofs.Common.{◌≡◌, ℕ, ◌+◌, ◌<◌, ◌≤◌, List, [], ◌∷◌, ◌++◌, length, set, sym, ap, subst, ◌∙◌, arith}
+use Rattle.std.proofs.Common.{◌≡◌, ◌+◌, [], ◌∷◌, ◌++◌, set, sym, ap, subst, ◌∙◌, arith}
 use Rattle.cove_core.specs.KeptRule.{KeptHartsLive, KeptHartsUse, KeptIsBounded, KeptIsMonitored, StepsKeepLive}
 use Rattle.cove_base.specs.Places.{count_word}
 use Rattle.cove_core.specs.Called.{no_tables}
