@@ -22,6 +22,7 @@ use Rattle.cove_model.proofs.Playing.{was_longer}
 use Rattle.cove_model.proofs.Quiet.{legal_quiet}
 use Rattle.cove_model.proofs.Usable.{held_since, use_holder}
 use Rattle.cove_model.proofs.WithinLimits.{Limits}
+use Rattle.cove_model.specs.BoardRule.{FindsPage, HasFound}
 use Rattle.cove_model.specs.Cached.{IsQuietAt, WasHost}
 use Rattle.cove_model.specs.Fits.{Fits, UnusedFits, WalkFits, ring_of, walked_ring}
 use Rattle.cove_model.specs.Histories.{Legal, after}
@@ -39,9 +40,9 @@ module _ (script : ScriptValue) (limits : Limits script) (H : List Entry) (e : E
       (each_last (IsQuietAt script) [] H e (legal_quiet script limits (H ++ e ∷ []) legal) p h moved)
 
   -- the ring of a hart without an unused walk
-  pub clear_own : (h : ℕ) (hosts : List (ℕ × Page)) → hosts ≡ ring_of (tlb script (H ++ e ∷ []) h).pages → IsClear script H e hosts
-  clear_own h hosts ring = λ p moved.
-      ap (found p) ring ∙ ring_lacks (tlb script (H ++ e ∷ []) h).pages p (unnamed p h moved)
+  pub clear_own : (h : ℕ) (held : HartValue) → held.hosts ≡ ring_of (tlb script (H ++ e ∷ []) h).pages → held.walked ≡ None → IsClear script H e held
+  clear_own h held ring none = λ p moved.
+      (ap (found p) ring ∙ ring_lacks (tlb script (H ++ e ∷ []) h).pages p (unnamed p h moved), λ has. subst (λ noted. HasFound noted p) none has)
 
   -- a page that was the host's since the last entry of another hart changed no hands
   was_moved : (h p : ℕ) → h < script.harts → (e.hart.0 ≡ h → ⊥) → WasHost script H h p → holder (page_at (after script (H ++ e ∷ [])).pages p) ≢ holder (page_at (after script H).pages p) → ⊥
@@ -66,13 +67,20 @@ module _ (script : ScriptValue) (limits : Limits script) (H : List Entry) (e : E
   clear_walk h p hosts on ne moved lacks (targets.Fetch g) w fits ring = absurd fits
   clear_walk h p hosts on ne moved lacks (targets.Access g) w fits ring = absurd fits
 
+  -- nor did an unused walk of another hart find a page that changed hands
+  walk_clear : (h p : ℕ) → h < script.harts → (e.hart.0 ≡ h → ⊥) → holder (page_at (after script (H ++ e ∷ [])).pages p) ≢ holder (page_at (after script H).pages p) → (target : Target) (w : Walked) → WalkFits script H h target w → FindsPage target w p → ⊥
+  walk_clear h p on ne moved (targets.Host q) (walks.Found page) fits same = was_moved h p on ne (subst (WasHost script H h) same fits.2) moved
+  walk_clear h p on ne moved (targets.Host q) (walks.Missing word) fits same = same
+  walk_clear h p on ne moved (targets.Fetch g) w fits same = same
+  walk_clear h p on ne moved (targets.Access g) w fits same = same
+
   -- the ring of another hart, with the page of its unused walk
-  pub clear_other : (other : HartValue) → (e.hart.0 ≡ other.hart → ⊥) → Fits script H other → IsClear script H e other.hosts
+  pub clear_other : (other : HartValue) → (e.hart.0 ≡ other.hart → ⊥) → Fits script H other → IsClear script H e other
   clear_other other ne fits = λ p moved.
       let lacks : has p (tlb script H other.hart).pages ≡ false =
       ap (λ (t : Tlb). has p t.pages) (sym (tlb_other script H e other.hart ne)) ∙ unnamed p other.hart moved in
       by_walk p moved lacks other.walked fits.walk fits.ring
     where
-      by_walk : (p : ℕ) → holder (page_at (after script (H ++ e ∷ [])).pages p) ≢ holder (page_at (after script H).pages p) → has p (tlb script H other.hart).pages ≡ false → (noted : Option Noted) → UnusedFits script H other.hart noted → other.hosts ≡ walked_ring (ring_of (tlb script H other.hart).pages) noted → found p other.hosts ≡ None
-      by_walk p moved lacks None walk ring = ap (found p) ring ∙ ring_lacks (tlb script H other.hart).pages p lacks
-      by_walk p moved lacks (Some noted) walk ring = clear_walk other.hart p other.hosts fits.on_board ne moved lacks noted.target noted.walked walk ring
+      by_walk : (p : ℕ) → holder (page_at (after script (H ++ e ∷ [])).pages p) ≢ holder (page_at (after script H).pages p) → has p (tlb script H other.hart).pages ≡ false → (noted : Option Noted) → UnusedFits script H other.hart noted → other.hosts ≡ walked_ring (ring_of (tlb script H other.hart).pages) noted → (found p other.hosts ≡ None) × (HasFound noted p → ⊥)
+      by_walk p moved lacks None walk ring = (ap (found p) ring ∙ ring_lacks (tlb script H other.hart).pages p lacks, λ has. has)
+      by_walk p moved lacks (Some noted) walk ring = (clear_walk other.hart p other.hosts fits.on_board ne moved lacks noted.target noted.walked walk ring, walk_clear other.hart p fits.on_board ne moved noted.target noted.walked walk)

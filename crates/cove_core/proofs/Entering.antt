@@ -10,7 +10,7 @@ use Rattle.cove_base.specs.Scripts.{ScriptValue}
 use Rattle.cove_base.specs.declared.events.Entry.{Entry}
 use Rattle.cove_base.specs.declared.events.Event.{Event}
 use Rattle.cove_core.specs.Kept.{IsKept, ProgressStands}
-use Rattle.cove_core.specs.Made.{IsCountable, IsPerformed}
+use Rattle.cove_core.specs.Made.{IsPerformed}
 use Rattle.cove_core.specs.declared.monitors.Mon.{Mon}
 use Rattle.cove_model.proofs.AtTheEnd.{after_push, each_push, ended_other, ended_own, from_end, legal_push, tlb_same}
 use Rattle.cove_model.proofs.Beginning.{asked_line, due, replicate_zero}
@@ -19,6 +19,7 @@ use Rattle.cove_model.proofs.Soundness.{board_of}
 use Rattle.cove_model.specs.Cached.{IsReached}
 use Rattle.cove_model.specs.Fits.{Fits, UnusedFits, ring_of, walked_ring}
 use Rattle.cove_model.specs.Histories.{after}
+use Rattle.cove_model.specs.LawfulCounts.{IsCountable}
 use Rattle.cove_model.specs.Played.{entry_by}
 use Rattle.cove_model.specs.States.{State, ended_by}
 use Rattle.cove_model.specs.Steps.{after_event, asked, done, end_line}

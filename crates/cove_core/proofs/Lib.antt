@@ -16,3 +16,5 @@ pub mod Turning
 pub mod Rounds
 pub mod FillLemmas
 pub mod Building
+pub mod KeptRuleProofs
+pub mod FenceScripts

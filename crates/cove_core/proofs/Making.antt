@@ -21,9 +21,11 @@ use Rattle.cove_core.specs.Kept.{IsKept}
 use Rattle.cove_core.specs.Made.{IsMade, IsPerformed, IsTold}
 use Rattle.cove_core.specs.Reached.{CanDo, IsDone, IsPrepared, IsReachable, loaded}
 use Rattle.cove_core.specs.Reached.{stored as stored_event}
+use Rattle.cove_core.specs.Stepped.{IsBehind}
 use Rattle.cove_core.specs.declared.ground.Ground.{Ground}
 use Rattle.cove_core.specs.declared.monitors.Mon.{Mon}
 use Rattle.cove_core.proofs.Clearing.{clear_other, clear_own}
+use Rattle.cove_core.proofs.Entering.{countable}
 use Rattle.cove_core.proofs.Events.{IsRightly, call_rightly, load_done, load_rightly, load_told, store_frames, store_rightly, store_stands, store_told}
 use Rattle.cove_core.proofs.Performing.{absent_now, reached_rightly, told_rightly}
 use Rattle.cove_core.proofs.ScriptLimits.{board_limits, line_page}
@@ -190,8 +192,8 @@ module _ (script : ScriptValue) (within : IsTrue (is_within_limits script)) (wor
       }
 
   -- and counted, it is made as the clauses say
-  pub made : (now : List ℕ) (ground : Ground) (hosts : List (ℕ × Page)) (event : Event) → IsPerformed script now (record { ground = ground; history = mon.history; progress = mon.progress }) (record held { hosts = hosts }) event → Parts script words mon held l.line now ground.memory hosts event → (counted : List ℕ) (new : Mon) (left : HartValue) → IsKept script counted new → Fits script new.history left → new.history ≡ mon.history ++ entry_by held.hart event ∷ [] → left.hart ≡ held.hart → left.hosts ≡ hosts → counted ≡ set now (count_word script.pages script.harts) (length mon.history + 1) → IsMade script words counted mon new held left (entry_by held.hart event)
-  made now ground hosts event performed did counted new left kept' fits' grown same ring stores =
+  pub made : (now : List ℕ) (ground : Ground) (hosts : List (ℕ × Page)) (event : Event) → IsPerformed script now (record { ground = ground; history = mon.history; progress = mon.progress }) (record held { hosts = hosts }) event → Parts script words mon held l.line now ground.memory hosts event → (counted : List ℕ) (new : Mon) (left : HartValue) → IsKept script counted new → Fits script new.history left → new.history ≡ mon.history ++ entry_by held.hart event ∷ [] → left.hart ≡ held.hart → left.hosts ≡ hosts → left.walked ≡ None → counted ≡ set now (count_word script.pages script.harts) (length mon.history + 1) → IsMade script words counted mon new held left (entry_by held.hart event)
+  made now ground hosts event performed did counted new left kept' fits' grown same ring used stores =
       let H = mon.history in
       let e = entry_by held.hart event in
       let S = after script H in
@@ -205,9 +207,9 @@ module _ (script : ScriptValue) (within : IsTrue (is_within_limits script)) (wor
         fits = fits';
         others = λ other ne old. subst (λ h. Fits script h other) (sym grown) (fits_other script H e other (λ q. ne (sym q)) old);
         told = did.told;
-        clear = clear_own script limits H e legal held.hart left.hosts (ring ∙ performed.ring ∙ ap (λ (t : Tlb). ring_of t.pages) (sym (tlb_same script H e held.hart refl)));
+        clear = clear_own script limits H e legal held.hart left (ring ∙ performed.ring ∙ ap (λ (t : Tlb). ring_of t.pages) (sym (tlb_same script H e held.hart refl))) used;
         others_clear = λ other ne old. clear_other script limits H e legal other (λ q. ne (sym q)) old;
-        stores = (now, did.lawful, stores);
+        stores = (now, did.lawful, countable script now (record { ground = ground; history = mon.history; progress = mon.progress }) (record held { hosts = hosts }) event performed, stores);
       }
 
 -- ---- the next line of a hart, by its place
@@ -223,6 +225,11 @@ ready_at script held prepared l next =
 pub has_next : (script : ScriptValue) (H : List Entry) (held : HartValue) → Fits script H held → IsPrepared script held → slice_get script.lines held.place ≡ None → ⊥
 has_next script H held fits prepared none =
     none-some prepared.line (sym none ∙ line_at_place script held.hart held.ended held.place fits.stands ∙ prepared.next)
+
+-- what is behind the hart's next line, is behind the line at its place
+pub behind_at : (script : ScriptValue) (H : List Entry) (held : HartValue) (l : ScriptLine) (other : ℕ) → next_line script held.hart held.ended ≡ Some l → IsBehind script H held other → first_behind script (after script H) l.phase ≡ Some other
+behind_at script H held l other next behind =
+    ap (λ (k : ScriptLine). first_behind script (after script H) k.phase) (same_Some l behind.line (sym next ∙ behind.next)) ∙ behind.first
 
 -- ---- on another name of the board
 

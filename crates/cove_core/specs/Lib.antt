@@ -8,3 +8,4 @@ pub mod Stepped
 pub mod Walks
 pub mod Seats
 pub mod Plays
+pub mod KeptRule

@@ -14,9 +14,11 @@ use Rattle.cove_base.specs.declared.numbers.Page.{Page}
 use Rattle.cove_core.specs.Called.{no_tables}
 use Rattle.cove_core.specs.Kept.{IsBoard, IsKept, ProgressStands}
 use Rattle.cove_core.specs.declared.monitors.Mon.{Mon}
+use Rattle.cove_model.specs.BoardRule.{HasFound}
 use Rattle.cove_model.specs.Cached.{IsCached, IsReached}
 use Rattle.cove_model.specs.Fits.{Fits, ring_of}
 use Rattle.cove_model.specs.Histories.{Legal, after}
+use Rattle.cove_model.specs.LawfulCounts.{IsCountable}
 use Rattle.cove_model.specs.LawfulStores.{MakesLawful}
 use Rattle.cove_model.specs.Owners.{holder, page_at}
 use Rattle.cove_model.specs.States.{ended_by, page_of}
@@ -24,22 +26,6 @@ use Rattle.cove_model.specs.Steps.{Allows, IsStep, done}
 use Rattle.cove_model.specs.Tlbs.{renewed, tlb}
 use Rattle.cove_model.specs.WordLaws.{Stand}
 use Rattle.cove_model.specs.WordsStand.{FramesStand, epoch_in}
-
--- An entry of a hart may be counted on these words: it may be made after the history and shows its translations
--- rightly, the words stand for what it leaves, and the count is still that of the history.
-pub record IsCountable (script : ScriptValue) (history : List Entry) (hart : ℕ) (words : List ℕ) (entry : Entry) : Type 0 where
-  pub own : entry.hart.0 ≡ hart
-  pub allowed : Allows script (after script history) hart entry.event
-  pub reached : IsReached script history hart entry.event
-  pub stands : Stand script.pages script.harts words (after script (history ++ entry ∷ []))
-  pub count : slice_index words (count_word script.pages script.harts) ≡ length history
-  pub epoch : epoch_in script.pages words ≤ length history + 1
-
--- a test lets each such entry be counted
-abbrev pub CountsEntries : (counts : List ℕ → ℕ → Entry → Type 0) → ScriptValue → (history : List Entry) (hart : ℕ) → Type 0
-CountsEntries counts script history hart =
-    (words : List ℕ) (entry : Entry)
-    → IsCountable script history hart words entry → counts words (count_word script.pages script.harts) entry
 
 -- An event that a hart made, before its entry is counted: the history and the progress are those before it, and the
 -- words, the frames and the ring of the hart are those after it.
@@ -77,18 +63,19 @@ IsTold words hosts (events.Guest act reply) = ⊥
 IsTold words hosts (events.Evidence quote) = ⊥
 IsTold words hosts (events.Exit exit) = ⊥
 
--- a page that the entry gave to another is named by no ring of the hart
-abbrev pub IsClear : ScriptValue → (before : List Entry) → Entry → (hosts : List (ℕ × Page)) → Type 0
-IsClear script before entry hosts =
+-- a page that the entry gave to another is named by no ring of the hart, and no unused walk of it found the page
+abbrev pub IsClear : ScriptValue → (before : List Entry) → Entry → HartValue → Type 0
+IsClear script before entry held =
     (p : ℕ)
     → holder (page_at (after script (before ++ entry ∷ [])).pages p) ≢ holder (page_at (after script before).pages p)
-    → found p hosts ≡ None
+    → (found p held.hosts ≡ None) × (HasFound held.walked p → ⊥)
 
--- The stores of an entry: lawful ones of its hart, and then that of the count.
-abbrev pub StoresAndCounts : ScriptValue → (hart count : ℕ) (before now : List ℕ) → Type 0
-StoresAndCounts script hart count before now =
+-- The stores of an entry of a hart: lawful ones, and then that of the count, on words on which it may be counted.
+abbrev pub StoresAndCounts : ScriptValue → (history : List Entry) (hart : ℕ) → Entry → (before now : List ℕ) → Type 0
+StoresAndCounts script history hart entry before now =
     (stored : List ℕ) × MakesLawful script.pages script.harts no_tables hart before before stored
-    × (now ≡ slice_set stored (count_word script.pages script.harts) (count + 1))
+    × IsCountable script history hart stored entry
+    × (now ≡ slice_set stored (count_word script.pages script.harts) (length history + 1))
 
 -- The entry of a hart, made and counted.
 pub record IsMade (script : ScriptValue) (before now : List ℕ) (old new : Mon) (held left : HartValue) (entry : Entry) : Type 0 where
@@ -100,10 +87,10 @@ pub record IsMade (script : ScriptValue) (before now : List ℕ) (old new : Mon)
   pub fits : Fits script new.history left
   pub others : (other : HartValue) → other.hart ≢ held.hart → Fits script old.history other → Fits script new.history other
   pub told : IsTold before held.hosts entry.event
-  -- no ring names a page whose holder changed, the page of an unused walk included
-  pub clear : IsClear script old.history entry left.hosts
-  pub others_clear : (other : HartValue) → other.hart ≢ held.hart → Fits script old.history other → IsClear script old.history entry other.hosts
-  pub stores : StoresAndCounts script held.hart (length old.history) before now
+  -- no ring and no unused walk names a page whose holder changed
+  pub clear : IsClear script old.history entry left
+  pub others_clear : (other : HartValue) → other.hart ≢ held.hart → Fits script old.history other → IsClear script old.history entry other
+  pub stores : StoresAndCounts script old.history held.hart entry before now
 
 -- what stands beside the words after the entry at a place was counted
 pub record IsCounted (history : List Entry) (place : ℕ) (guard_before guard_now : Option Guard) (now : List ℕ) (clean : Bool) (entry : Entry) : Type 0 where

@@ -23,6 +23,12 @@ OnAhead (Did place) P = Unit {0}
 OnAhead (Ahead hart) P = P hart
 OnAhead Limit P = Unit {0}
 
+-- it is this hart that is behind
+abbrev pub IsAhead : Stepped → (hart : ℕ) → Type 0
+IsAhead (Did place) other = ⊥
+IsAhead (Ahead hart) other = hart.0 ≡ other
+IsAhead Limit other = ⊥
+
 -- the history was full
 abbrev pub IsLimit : Stepped → Type 0
 IsLimit (Did place) = ⊥

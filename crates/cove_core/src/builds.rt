@@ -1,6 +1,7 @@
 //! What a run of a script stands on before any turn.
 
-ghost use Rattle.std.specs.Prelude.{IfOk};
+ghost use Rattle.std.specs.Prelude.{◌≡◌, IfOk, replicate};
+ghost use Rattle.cove_base.specs.Places.{all_words};
 ghost use Rattle.cove_core.specs.Plays.{IsFresh};
 
 use crate::fills::opening_memory;
@@ -13,7 +14,8 @@ use std::alloc::Global;
 
 /// Takes all memory of a run of a script, for as many entries as a history may have.
 pub fn build(alloc: Global, script: &Script) -> Result<Built, NoMemory>
-    ensures { IfOk result (λ built. IsFresh script.now built) }
+    ensures fresh { IfOk result (λ built. IsFresh script.now built) }
+    ensures zeros { IfOk result (λ built. built.words ≡ replicate (all_words script.now.pages script.now.harts) 0) }
 {
     within_limits(script);
     let memory = opening_memory(alloc, script)?;

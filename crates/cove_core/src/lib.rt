@@ -5,8 +5,9 @@
 //! state the words and frames stood for, the answer is that state's, and they stand for the state after it. The one
 //! theorem is the contract of [`event_step`]: it keeps a history legal and cached, its words, frames and progress
 //! standing for the state after it, and every hart fitting it. Its words are in specs/Kept, specs/Made and
-//! specs/Stepped. [`play`] takes the turns of a script over words of one owner, and its history is the one that the
-//! script plays. It stands on the laws of `cove_model`, and on the owners, fences, frames and rings below it.
+//! specs/Stepped. [`kept_law`] says that every page which a hart names then is one that the words let it use.
+//! [`play`] takes the turns of a script over words of one owner, and its history is the one that the script plays.
+//! It stands on the laws of `cove_model`, and on the owners, fences, frames and rings below it.
 
 mod accesses;
 mod builds;
@@ -15,6 +16,7 @@ mod fills;
 mod ground;
 mod monitors;
 mod plays;
+mod rules;
 mod seats;
 mod steps;
 #[cfg(test)]
@@ -27,6 +29,7 @@ pub use fills::opening_memory;
 pub use ground::Ground;
 pub use monitors::{Mon, Progress};
 pub use plays::{Built, play};
+pub use rules::kept_law;
 pub use seats::Harts;
 pub use steps::{Stepped, event_step};
 pub use walks::walk_step;

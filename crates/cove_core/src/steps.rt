@@ -1,14 +1,15 @@
 //! One entry of a hart.
 
-ghost use Rattle.std.specs.Prelude.{◌≡◌, ◌↔◌, ◌+◌, ◌<◌, ◌≤◌, ◌++◌, ◌∷◌, [], IfSome, IsSome, IsTrue, None, true, length, slice_get, slice_set};
+ghost use Rattle.std.specs.Prelude.{ℕ, ◌≡◌, ◌↔◌, ◌+◌, ◌<◌, ◌≤◌, ◌++◌, ◌∷◌, [], IfSome, IsSome, IsTrue, None, true, length, slice_get, slice_set};
 ghost use Rattle.cove_base.specs.Guards.{guard_after};
 ghost use Rattle.cove_base.specs.Places.{count_word};
 ghost use Rattle.cove_base.specs.Scripts.{is_within_limits};
 ghost use Rattle.cove_core.specs.Kept.{IsKept};
-ghost use Rattle.cove_core.specs.Made.{CountsEntries, IsMade, IsPerformed};
+ghost use Rattle.cove_core.specs.Made.{IsMade, IsPerformed};
 ghost use Rattle.cove_core.specs.Called.{no_tables};
 ghost use Rattle.cove_core.specs.Reached.{IsPrepared};
-ghost use Rattle.cove_core.specs.Stepped.{IsBehind, IsFirst, IsLimit, IsStill, OnAhead, OnDid};
+ghost use Rattle.cove_core.specs.Stepped.{IsAhead, IsBehind, IsFirst, IsLimit, IsStill, OnAhead, OnDid};
+ghost use Rattle.cove_model.specs.LawfulCounts.{CountsEntries};
 ghost use Rattle.cove_model.specs.LawfulStores.{AllowsLawful};
 ghost use Rattle.cove_hart.specs.HartStates.{value_of};
 ghost use Rattle.cove_model.specs.Fits.{Fits};
@@ -51,6 +52,8 @@ pub fn event_step<W: Words>(
     ensures used { OnDid result (λ _. hart.new.walked ≡ None) }
     ensures limit { IsLimit result ↔ (ENTRY_LIMIT ≤ length mon.old.history) }
     ensures ahead { OnAhead result (λ other. IsBehind script.now mon.old.history (value_of hart.old) other.0) }
+    ensures behind { (other : ℕ) → IsAhead result other
+        ↔ ((length mon.old.history < ENTRY_LIMIT) × IsBehind script.now mon.old.history (value_of hart.old) other) }
     ensures due { OnDid result (λ _. IsFirst script.now mon.old.history (value_of hart.old)) }
     ensures still { IsStill result
         ((W.words w.new ≡ W.words w.old) × (W.guard w.new ≡ W.guard w.old) × (W.clean w.new ≡ W.clean w.old)

@@ -25,3 +25,4 @@ pub mod ToldProofs
 pub mod OpeningStandsProofs
 pub mod GrammarLimits
 pub mod StoreLawProofs
+pub mod BoardRuleProofs

@@ -20,3 +20,5 @@ pub mod LawfulStores
 pub mod WordLaws
 pub mod StoreLaw
 pub mod ScriptText
+pub mod LawfulCounts
+pub mod BoardRule

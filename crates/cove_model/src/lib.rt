@@ -5,6 +5,7 @@
 
 mod laws;
 mod readings;
+mod rules;
 mod standing;
 
 pub use laws::{
@@ -14,4 +15,5 @@ pub use laws::{
     translations_are_usable, unbuilt_calls_are_refused, worked_examples,
 };
 pub use readings::{Place, Reading};
+pub use rules::{boundary_law, store_law};
 pub use standing::{frames_law, lawful_law, telling_law, words_law};

@@ -17,8 +17,8 @@ all_words-requires-clause-harts c =
     let limits = board_limits c.args.script.now c.within_limits.ensures in
     omega (arith, limits.harts, harts)
 
-pub returns : goal.returns
-returns c =
+pub returns-clause-fresh : goal.returns-clause-fresh
+returns-clause-fresh c =
     let script = c.args.script.now in
     let pages = ap (λ (s : ScriptValue). s.pages) c.script.view_is in
     let harts = ap (λ (s : ScriptValue). s.harts) c.script.view_is in

@@ -1,8 +1,9 @@
-use Rattle.std.proofs.Common.{◌≡◌, ◌<◌, ◌∷◌, ◌++◌, [], Some, None, IfNone, length, slice_get, refl, sym, subst, ap, ◌∙◌, arith}
+use Rattle.std.proofs.lemmas.Option.{none-some, same_Some}
+use Rattle.std.proofs.Common.{ℕ, ◌≡◌, ◌<◌, ◌∷◌, ◌++◌, [], Some, None, IfNone, length, slice_get, refl, sym, subst, ap, ◌∙◌, arith}
 use Rattle.cove_base.specs.Guards.{guard_after}
 use Rattle.cove_base.specs.declared.events.Entry.{Entry}
 use Rattle.cove_base.specs.declared.limits.TheConstants.{ENTRY_LIMIT}
-use Rattle.cove_core.proofs.Making.{allows_on, can_do, can_on, done_on, entry_from, has_next, last_entry, made, next_at, parts, performed, ready_at, some_last}
+use Rattle.cove_core.proofs.Making.{allows_on, behind_at, can_do, can_on, done_on, entry_from, has_next, last_entry, made, next_at, parts, performed, ready_at, some_last}
 use Rattle.cove_core.proofs.ScriptLimits.{board_limits}
 use Rattle.cove_core.specs.Made.{IsMade, IsPerformed}
 use Rattle.cove_hart.specs.HartStates.{value_of}
@@ -31,6 +32,36 @@ returns-in-Some-first_behind-clause-ahead g c =
     let at : slice_get script.lines held.place ≡ Some l = sym c.line_at.ensures.line ∙ c.in-Some.is in
     let next = next_at script mon.history held fits l at in
     record { line = l; next = next; first = c.in-Some-first_behind.ensures.some }
+
+pub returns-in-Some-first_behind-clause-behind : goal.returns-in-Some-first_behind-clause-behind
+returns-in-Some-first_behind-clause-behind g c =
+    let script = c.args.script.now in
+    let mon = c.args.mon.now in
+    let held = value_of c.args.hart.now in
+    let l = c.in-Some.line in
+    let at : slice_get script.lines held.place ≡ Some l = sym c.line_at.ensures.line ∙ c.in-Some.is in
+    let next = next_at script mon.history held c.requires.fits l at in
+    let size = c.len-place.ensures in
+    let room : length mon.history < ENTRY_LIMIT = omega (arith, c.if-place.false) in
+    λ other. (
+      λ same. (room, record { line = l; next = next; first = c.in-Some-first_behind.ensures.some ∙ ap (λ (k : ℕ). Some k) same }),
+      λ behind. same_Some c.in-Some-first_behind.other.0 other (sym c.in-Some-first_behind.ensures.some ∙ behind_at script mon.history held l other next behind.1),
+    )
+
+pub returns-clause-behind : goal.returns-clause-behind
+returns-clause-behind g c =
+    let script = c.args.script.now in
+    let mon = c.args.mon.now in
+    let held = value_of c.args.hart.now in
+    let l = c.in-Some.line in
+    let at : slice_get script.lines held.place ≡ Some l = sym c.line_at.ensures.line ∙ c.in-Some.is in
+    let next = next_at script mon.history held c.requires.fits l at in
+    let none : first_behind script (after script mon.history) l.phase ≡ None =
+    subst (λ r. IfNone r (first_behind script (after script mon.history) l.phase ≡ None)) c.in_default-first_behind.is c.first_behind.ensures.none in
+    λ other. (
+      λ same. absurd same,
+      λ behind. none-some other (sym none ∙ behind_at script mon.history held l other next behind.1),
+    )
 
 pub perform-event-requires-clause-can : goal.perform-event-requires-clause-can
 perform-event-requires-clause-can g c =
@@ -110,7 +141,7 @@ returns-clause-made g c =
     c.enter.ensures.grown ∙ ap (λ h. mon.history ++ entry_from h event ∷ []) hart in
     last_entry (λ e. IsMade script words (g.W.Words.words c.enter.new.w) mon c.enter.new.mon held (value_of c.enter.new.hart) e) mon.history c.enter.new.mon.history entry c.len-place.result grown c.len-place.ensures
     (made script within words mon kept held fits l at next now ground hosts event performed_so did (g.W.Words.words c.enter.new.w) c.enter.new.mon (value_of c.enter.new.hart)
-    c.enter.ensures.kept c.enter.ensures.fits grown (ap (λ n. n.0) (c.enter.ensures.hart ∙ hart)) c.enter.ensures.hosts c.enter.ensures.words)
+    c.enter.ensures.kept c.enter.ensures.fits grown (ap (λ n. n.0) (c.enter.ensures.hart ∙ hart)) c.enter.ensures.hosts c.enter.ensures.used c.enter.ensures.words)
 
 pub returns-clause-entry : goal.returns-clause-entry
 returns-clause-entry g c =

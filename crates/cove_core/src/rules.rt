@@ -1,0 +1,12 @@
+ghost use Rattle.cove_core.specs.KeptRule.{KeptHartsLive, KeptHartsUse, KeptIsBounded, KeptIsMonitored, StepsKeepLive};
+
+/// The law of a history that is kept: the board's rule holds of its words, and of each hart that fits it. So each
+/// page that such a hart names, by its ring or by an unused walk, is one that the words let it use. And an entry that
+/// a hart made leaves what holds of every other hart. It runs no code.
+pub fn kept_law()
+    ensures monitored { KeptIsMonitored }
+    ensures bounded { KeptIsBounded }
+    ensures live { KeptHartsLive }
+    ensures usable { KeptHartsUse }
+    ensures steps { StepsKeepLive }
+{}

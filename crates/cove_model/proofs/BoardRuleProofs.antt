@@ -1,0 +1,318 @@
+-- Lawful stores and the store of the count keep the rule of every other hart; a hart that fits follows it.
+use Rattle.std.proofs.Common.{◌≡◌, ◌≢◌, ℕ, ◌+◌, ◌<◌, ◌≤◌, Bool, true, false, cond, List, [], ◌∷◌, ◌++◌, Option, Some, None, IsSome, length, get_or, set, refl, sym, ◌∙◌, ap, subst, inl, inr, ⊎_elim, arith, get_or-set_other, get_or-set_same, length-set}
+use Rattle.std.proofs.lemmas.Bool.{cases_lt, false≢true}
+use Rattle.std.proofs.lemmas.List.{get_or_past, length_push}
+use Rattle.cove_base.specs.HartValues.{HartValue, hosts_after}
+use Rattle.cove_base.specs.PageWords.{host, IsHostWord}
+use Rattle.cove_base.specs.Places.{count_word, epoch_word, answered_word, all_words}
+use Rattle.cove_base.specs.Rings.{found}
+use Rattle.cove_base.specs.Rings.{filled as ring_with}
+use Rattle.cove_base.specs.Scripts.{ScriptValue}
+use Rattle.cove_base.specs.Stores.{AllAllowed, stored}
+use Rattle.cove_base.specs.declared.events.Entry.{Entry}
+use Rattle.cove_base.specs.declared.events.How.TheVariants.{Walk}
+use Rattle.cove_base.specs.declared.events.Walked.{Walked}
+use Rattle.cove_base.specs.declared.events.Walked.TheVariants as walks
+use Rattle.cove_base.specs.declared.numbers.Page.{Page}
+use Rattle.cove_base.specs.declared.walks.Noted.{Noted}
+use Rattle.cove_base.specs.declared.walks.Target.{Target}
+use Rattle.cove_base.specs.declared.walks.Target.TheVariants as targets
+use Rattle.cove_model.proofs.AtTheEnd.{each_push, legal_push, tlb_other}
+use Rattle.cove_model.proofs.BesideProofs.{count_leaves_words}
+use Rattle.cove_model.proofs.Fitting.{ring_filled, ring_finds_page}
+use Rattle.cove_model.proofs.Members.{false-true, has_filled}
+use Rattle.cove_model.proofs.Playing.{was_longer, was_now}
+use Rattle.cove_model.proofs.StoreLawProofs.{stores_keep_answers, stores_keep_epoch, stores_keep_host, stores_keep_usable}
+use Rattle.cove_model.proofs.ToldProofs.{words_tell_host}
+use Rattle.cove_model.proofs.Usable.{held_since, usable}
+use Rattle.cove_model.proofs.WithinLimits.{Limits, limits_of}
+use Rattle.cove_model.specs.BoardRule.{AreBounded, CountsKeepRule, FindsPage, FittingHartsLive, FittingHartsUse, HasFound, IsLive, IsMonitored, ListsKeepRule, LiveWalksWereRight, StoresKeepRule, UnusedLives, WalkLives}
+use Rattle.cove_model.specs.Cached.{IsReached, WasHost}
+use Rattle.cove_model.specs.Fits.{Fits, UnusedFits, WalkFits, ring_of, walked_ring}
+use Rattle.cove_model.specs.Histories.{after}
+use Rattle.cove_model.specs.LawfulCounts.{IsCountable}
+use Rattle.cove_model.specs.LawfulStores.{Tables, IsLawful, Counts, Converts, Frees, Gives, TakesBack, Removes, Answers, Begins}
+use Rattle.cove_model.specs.Owners.{Owner, Host, Converting, Free, Given, has, may_use, page_at}
+use Rattle.cove_model.specs.States.{State}
+use Rattle.cove_model.specs.Steps.{Allows}
+use Rattle.cove_model.specs.StoreLaw.{IsUsableWord, MayUse}
+use Rattle.cove_model.specs.Tlbs.{Tlb, filled, tlb}
+use Rattle.cove_model.specs.WordsStand.{OwnersStand, PageStands, epoch_in, answered_in, maps_of}
+
+-- ---- what words that stand say of a page that a hart may use
+
+usable_word : (harts epoch : ℕ) (numbers : ℕ → ℕ) (maps word h : ℕ) (o : Owner) → may_use h o ≡ true → PageStands harts epoch numbers maps word o → IsUsableWord (numbers h) word
+usable_word harts epoch numbers maps word h (Host words) may stands = inl (maps, stands)
+usable_word harts epoch numbers maps word h (Converting held waiting words) may stands = inr (stands.since, stands.is, (stands.holds h may).1)
+usable_word harts epoch numbers maps word h Free may stands = false-true may
+usable_word harts epoch numbers maps word h (Given tvm purpose) may stands = false-true may
+
+within_memory : (h p : ℕ) (pages : List Owner) → may_use h (page_at pages p) ≡ true → p < length pages
+within_memory h p pages may =
+    ⊎_elim (λ less. less)
+    (λ past. false-true (sym (ap (may_use h) (get_or_past pages p Free past)) ∙ may))
+    (cases_lt p (length pages))
+
+usable_in : (pages harts : ℕ) (words : List ℕ) (S : State) (h p : ℕ) → OwnersStand pages harts words S → may_use h (page_at S.pages p) ≡ true → (p < pages) × MayUse pages words h p
+usable_in pages harts words S h p stands may =
+    let inside : p < length S.pages = within_memory h p S.pages may in
+    let count : length S.pages ≡ pages = stands.page_count in
+    let below : p < pages = omega arith in
+    (below, usable_word harts (epoch_in pages words) (answered_in pages words) (maps_of S p) (get_or words p 0) h (page_at S.pages p) may (stands.page p below))
+
+-- ---- a lawful store
+
+-- it is none of the count
+beside_count : {pages harts : ℕ} {tables : ℕ → Tables} {hart : ℕ} {old words : List ℕ} {place word : ℕ} → IsLawful pages harts tables hart old words place word → count_word pages harts ≢ place
+beside_count (Counts page before after is at was new few) = omega arith
+beside_count (Converts page is at was now new) = omega arith
+beside_count (Frees page is at free new) = omega arith
+beside_count (Gives page tvm role is low high at free new left) = omega arith
+beside_count (TakesBack page tvm role is at was new left) = omega arith
+beside_count (Removes page tvm is at was new none) = omega arith
+beside_count (Answers is at new) = omega arith
+beside_count (Begins at room new all) = omega arith
+
+module _ (script : ScriptValue) (history : List Entry) (old now : List ℕ) (tables : ℕ → Tables) (hart place word : ℕ) (part : IsMonitored script history old now) (bounded : AreBounded script.pages script.harts now) (lawful : IsLawful script.pages script.harts tables hart old now place word) where
+  store_monitored : IsMonitored script history old (set now place word)
+  store_monitored = record {
+    legal = part.legal;
+    cached = part.cached;
+    stands = part.stands;
+    fences = part.fences;
+    count = get_or-set_other now place (count_word script.pages script.harts) word 0 (beside_count lawful) ∙ part.count;
+    size = length-set now place word ∙ part.size;
+  }
+
+  store_bounded : AreBounded script.pages script.harts (set now place word)
+  store_bounded = record {
+    within = stores_keep_answers script.pages script.harts tables hart old now place word part.size bounded.within lawful;
+    epoch = stores_keep_epoch script.pages script.harts tables hart old now place word part.size bounded.epoch lawful;
+  }
+
+  -- a page that had no pending store was the host's after the last entry
+  old_host : (h p : ℕ) → p < script.pages → get_or old p 0 ≡ host 0 → WasHost script history h p
+  old_host h p below was =
+      was_now script history h p ((words_tell_host script.pages script.harts old (after script history) p below part.stands.owners).1 (0, was))
+
+  store_walk : (h : ℕ) (target : Target) (w : Walked) → WalkLives script history now h target w → WalkLives script history (set now place word) h target w
+  store_walk h (targets.Host p) (walks.Found page) lives =
+      let next = ⊎_elim
+      (λ is. ⊎_elim inl (λ was. inr (old_host h p.0 lives.1 was)) (stores_keep_host script.pages script.harts tables hart old now place word p.0 part.size lives.1 lawful is))
+      inr
+      lives.2 in
+      (lives.0, lives.1, next)
+  store_walk h (targets.Host p) (walks.Missing w) lives = tt
+  store_walk h (targets.Fetch g) w lives = absurd lives
+  store_walk h (targets.Access g) w lives = absurd lives
+
+  store_unused : (h : ℕ) (noted : Option Noted) → UnusedLives script history now h noted → UnusedLives script history (set now place word) h noted
+  store_unused h None lives = tt
+  store_unused h (Some noted) lives = store_walk h noted.target noted.walked lives
+
+  store_live : (other : HartValue) → other.hart ≢ hart → IsLive script history now other → IsLive script history (set now place word) other
+  store_live other ne live = record {
+    on_board = live.on_board;
+    usable = λ p named.
+        let was = live.usable p named in
+        (was.0, stores_keep_usable script.pages script.harts tables hart other.hart old now place word p part.size bounded.within live.on_board ne was.0 lawful was.1);
+    walk = store_unused other.hart other.walked live.walk;
+    ring = live.ring;
+  }
+
+pub stores_keep_rule : StoresKeepRule
+stores_keep_rule script history old now tables hart place word part bounded lawful =
+    (store_monitored script history old now tables hart place word part bounded lawful, store_bounded script history old now tables hart place word part bounded lawful, store_live script history old now tables hart place word part bounded lawful)
+
+-- ---- a list of them
+
+lists_from : (script : ScriptValue) (history : List Entry) (old : List ℕ) (tables : ℕ → Tables) (hart : ℕ) (ss : List (ℕ × ℕ)) (now : List ℕ) → IsMonitored script history old now → AreBounded script.pages script.harts now → AllAllowed (IsLawful script.pages script.harts tables hart old) now ss → IsMonitored script history old (stored now ss) × AreBounded script.pages script.harts (stored now ss) × ((other : HartValue) → other.hart ≢ hart → IsLive script history now other → IsLive script history (stored now ss) other)
+lists_from script history old tables hart [] now part bounded all = (part, bounded, λ other ne live. live)
+lists_from script history old tables hart (s ∷ ss) now part bounded all =
+    let one = stores_keep_rule script history old now tables hart s.0 s.1 part bounded all.0 in
+    let rest = lists_from script history old tables hart ss (set now s.0 s.1) one.0 one.1 all.1 in
+    (rest.0, rest.1, λ other ne live. rest.2 other ne (one.2 other ne live))
+
+pub lists_keep_rule : ListsKeepRule
+lists_keep_rule script history old now new tables hart part bounded leads =
+    let all = lists_from script history old tables hart leads.0 now part bounded leads.1 in
+    (subst (IsMonitored script history old) (sym leads.2) all.0, subst (AreBounded script.pages script.harts) (sym leads.2) all.1, λ other ne live. subst (λ ws. IsLive script history ws other) (sym leads.2) (all.2 other ne live))
+
+-- ---- the store of the count
+
+module _ (script : ScriptValue) (history : List Entry) (old now : List ℕ) (hart : ℕ) (entry : Entry) (part : IsMonitored script history old now) (bounded : AreBounded script.pages script.harts now) (countable : IsCountable script history hart now entry) where
+  abbrev one_more : ℕ
+  one_more = get_or now (count_word script.pages script.harts) 0 + 1
+
+  abbrev after_count : List ℕ
+  after_count = set now (count_word script.pages script.harts) (get_or now (count_word script.pages script.harts) 0 + 1)
+
+  epoch_stays : epoch_in script.pages after_count ≡ epoch_in script.pages now
+  epoch_stays =
+      let apart : epoch_word script.pages ≢ count_word script.pages script.harts = omega arith in
+      get_or-set_other now (count_word script.pages script.harts) (epoch_word script.pages) one_more 0 apart
+
+  answer_stays : (h : ℕ) → h < script.harts → answered_in script.pages after_count h ≡ answered_in script.pages now h
+  answer_stays h on =
+      let apart : answered_word script.pages h ≢ count_word script.pages script.harts = omega arith in
+      get_or-set_other now (count_word script.pages script.harts) (answered_word script.pages h) one_more 0 apart
+
+  page_stays : (p : ℕ) → p < script.pages → get_or after_count p 0 ≡ get_or now p 0
+  page_stays p below =
+      let apart : p ≢ count_word script.pages script.harts = omega arith in
+      get_or-set_other now (count_word script.pages script.harts) p one_more 0 apart
+
+  count_monitored : IsMonitored script (history ++ entry ∷ []) after_count after_count
+  count_monitored =
+      let longer : length (history ++ entry ∷ []) ≡ length history + 1 = length_push history entry in
+      let few = countable.epoch in
+      let same = epoch_stays in
+      let size : length now ≡ all_words script.pages script.harts = part.size in
+      let inside : count_word script.pages script.harts < length now = omega arith in
+      let legal_event = subst (λ h. Allows script (after script history) h entry.event) (sym countable.own) countable.allowed in
+      let reached_event = subst (λ h. IsReached script history h entry.event) (sym countable.own) countable.reached in
+      record {
+        legal = legal_push script history entry part.legal legal_event;
+        cached = each_push (λ before e. IsReached script before e.hart.0 e.event) [] history entry part.cached reached_event;
+        stands = (count_leaves_words script.pages script.harts now (after script (history ++ entry ∷ [])) one_more countable.stands).stands;
+        fences = omega arith;
+        count = get_or-set_same now (count_word script.pages script.harts) one_more 0 inside ∙ ap (λ n. n + 1) part.count ∙ sym longer;
+        size = length-set now (count_word script.pages script.harts) one_more ∙ size;
+      }
+
+  count_bounded : AreBounded script.pages script.harts after_count
+  count_bounded = record {
+    within = λ h on.
+        let was : answered_in script.pages now h ≤ epoch_in script.pages now = bounded.within h on in
+        let number = answer_stays h on in
+        let same = epoch_stays in
+        omega arith;
+    epoch = let few = bounded.epoch in let same = epoch_stays in omega arith;
+  }
+
+  count_walk : (h : ℕ) → (entry.hart.0 ≡ h → ⊥) → (target : Target) (w : Walked) → WalkLives script history now h target w → WalkLives script (history ++ entry ∷ []) after_count h target w
+  count_walk h ne (targets.Host p) (walks.Found page) lives =
+      let next = ⊎_elim
+      (λ is. inl (subst IsHostWord (sym (page_stays p.0 lives.1)) is))
+      (λ was. inr (was_longer script history entry h p.0 ne was))
+      lives.2 in
+      (lives.0, lives.1, next)
+  count_walk h ne (targets.Host p) (walks.Missing w) lives = tt
+  count_walk h ne (targets.Fetch g) w lives = absurd lives
+  count_walk h ne (targets.Access g) w lives = absurd lives
+
+  count_unused : (h : ℕ) → (entry.hart.0 ≡ h → ⊥) → (noted : Option Noted) → UnusedLives script history now h noted → UnusedLives script (history ++ entry ∷ []) after_count h noted
+  count_unused h ne None lives = tt
+  count_unused h ne (Some noted) lives = count_walk h ne noted.target noted.walked lives
+
+  count_usable : (h p : ℕ) → h < script.harts → p < script.pages → MayUse script.pages now h p → MayUse script.pages after_count h p
+  count_usable h p on below may =
+      subst (λ n. IsUsableWord n (get_or after_count p 0)) (sym (answer_stays h on))
+      (subst (IsUsableWord (answered_in script.pages now h)) (sym (page_stays p below)) may)
+
+  count_live : (other : HartValue) → other.hart ≢ hart → IsLive script history now other → IsLive script (history ++ entry ∷ []) after_count other
+  count_live other ne live =
+      let apart : entry.hart.0 ≡ other.hart → ⊥ = λ q. ne (sym q ∙ countable.own) in
+      record {
+        on_board = live.on_board;
+        usable = λ p named.
+            let was = live.usable p named in
+            (was.0, count_usable other.hart p live.on_board was.0 was.1);
+        walk = count_unused other.hart apart other.walked live.walk;
+        ring = live.ring ∙ ap (λ (t : Tlb). walked_ring (ring_of t.pages) other.walked) (sym (tlb_other script history entry other.hart apart));
+      }
+
+pub counts_keep_rule : CountsKeepRule
+counts_keep_rule script history old now hart entry part bounded countable =
+    (count_monitored script history old now hart entry part bounded countable, count_bounded script history old now hart entry part bounded countable, count_live script history old now hart entry part bounded countable)
+
+-- ---- the boundary
+
+-- a page that a ring of pages names is one of them
+ring_names : (pages : List ℕ) (p : ℕ) → IsSome (found p (ring_of pages)) → has p pages ≡ true
+ring_names pages p named = go (has p pages) (subst IsSome (ring_finds_page pages p) named)
+  where
+    as_page : ℕ → Page
+    as_page k = record { 0 = k }
+
+    go : (b : Bool) → IsSome (cond b (Some (as_page p)) None) → b ≡ true
+    go true some = refl
+    go false some = absurd (false≢true some)
+
+module _ (script : ScriptValue) (limits : Limits script) (history : List Entry) (words : List ℕ) (part : IsMonitored script history words words) where
+  lives_in : (h p : ℕ) → may_use h (page_at (after script history).pages p) ≡ true → (p < script.pages) × MayUse script.pages words h p
+  lives_in h p may = usable_in script.pages script.harts words (after script history) h p part.stands.owners may
+
+  held_lives : (h p : ℕ) → has p (tlb script history h).pages ≡ true → (p < script.pages) × MayUse script.pages words h p
+  held_lives h p named = lives_in h p (usable script limits history part.legal h p named)
+
+  found_lives : (h p : ℕ) → h < script.harts → WasHost script history h p → (p < script.pages) × MayUse script.pages words h p
+  found_lives h p on was = lives_in h p (held_since script history h p on was)
+
+  ring_lives : (h p : ℕ) (hosts : List (ℕ × Page)) → hosts ≡ ring_of (tlb script history h).pages → IsSome (found p hosts) → (p < script.pages) × MayUse script.pages words h p
+  ring_lives h p hosts ring named = held_lives h p (ring_names (tlb script history h).pages p (subst (λ r. IsSome (found p r)) ring named))
+
+  walk_usable : (h p : ℕ) (hosts : List (ℕ × Page)) → h < script.harts → (target : Target) (w : Walked) → WalkFits script history h target w → hosts ≡ hosts_after (ring_of (tlb script history h).pages) target w → IsSome (found p hosts) → (p < script.pages) × MayUse script.pages words h p
+  walk_usable h p hosts on (targets.Host q) (walks.Found page) fits ring named =
+      let pages = (tlb script history h).pages in
+      let R = ring_of pages in
+      let is : hosts ≡ ring_of (filled Walk q.0 pages) = ring ∙ ap (ring_with R q.0) fits.1 ∙ sym (ring_filled pages q.0) in
+      ⊎_elim
+      (λ there. held_lives h p there)
+      (λ same. subst (λ k. (k < script.pages) × MayUse script.pages words h k) same (found_lives h q.0 on fits.2))
+      (has_filled Walk p q.0 pages (ring_names (filled Walk q.0 pages) p (subst (λ r. IsSome (found p r)) is named)))
+  walk_usable h p hosts on (targets.Host q) (walks.Missing word) fits ring named = ring_lives h p hosts ring named
+  walk_usable h p hosts on (targets.Fetch g) w fits ring named = absurd fits
+  walk_usable h p hosts on (targets.Access g) w fits ring named = absurd fits
+
+  all_usable : (h p : ℕ) (hosts : List (ℕ × Page)) → h < script.harts → (noted : Option Noted) → UnusedFits script history h noted → hosts ≡ walked_ring (ring_of (tlb script history h).pages) noted → IsSome (found p hosts) → (p < script.pages) × MayUse script.pages words h p
+  all_usable h p hosts on None fits ring named = ring_lives h p hosts ring named
+  all_usable h p hosts on (Some noted) fits ring named = walk_usable h p hosts on noted.target noted.walked fits ring named
+
+  walk_lives : (h : ℕ) → h < script.harts → (target : Target) (w : Walked) → WalkFits script history h target w → WalkLives script history words h target w
+  walk_lives h on (targets.Host q) (walks.Found page) fits = (fits.1, (found_lives h q.0 on fits.2).0, inr fits.2)
+  walk_lives h on (targets.Host q) (walks.Missing word) fits = tt
+  walk_lives h on (targets.Fetch g) w fits = absurd fits
+  walk_lives h on (targets.Access g) w fits = absurd fits
+
+  unused_lives : (h : ℕ) → h < script.harts → (noted : Option Noted) → UnusedFits script history h noted → UnusedLives script history words h noted
+  unused_lives h on None fits = tt
+  unused_lives h on (Some noted) fits = walk_lives h on noted.target noted.walked fits
+
+  live_of : (held : HartValue) → Fits script history held → IsLive script history words held
+  live_of held fits = record {
+    on_board = fits.on_board;
+    usable = λ p named. all_usable held.hart p held.hosts fits.on_board held.walked fits.walk fits.ring named;
+    walk = unused_lives held.hart fits.on_board held.walked fits.walk;
+    ring = fits.ring;
+  }
+
+  -- the page of an unused walk
+  walk_named : (h p : ℕ) → h < script.harts → (target : Target) (w : Walked) → WalkFits script history h target w → FindsPage target w p → (p < script.pages) × MayUse script.pages words h p
+  walk_named h p on (targets.Host q) (walks.Found page) fits same = subst (λ k. (k < script.pages) × MayUse script.pages words h k) same (found_lives h q.0 on fits.2)
+  walk_named h p on (targets.Host q) (walks.Missing word) fits same = absurd same
+  walk_named h p on (targets.Fetch g) w fits same = absurd same
+  walk_named h p on (targets.Access g) w fits same = absurd same
+
+  unused_named : (h p : ℕ) → h < script.harts → (noted : Option Noted) → UnusedFits script history h noted → HasFound noted p → (p < script.pages) × MayUse script.pages words h p
+  unused_named h p on None fits same = absurd same
+  unused_named h p on (Some noted) fits same = walk_named h p on noted.target noted.walked fits same
+
+pub fitting_harts_use : FittingHartsUse
+fitting_harts_use script history words held p within part fits named =
+    let limits = limits_of script within in
+    ⊎_elim
+    (λ ring. (live_of script limits history words part held fits).usable p ring)
+    (λ walk. unused_named script limits history words part held.hart p fits.on_board held.walked fits.walk walk)
+    named
+
+pub fitting_harts_live : FittingHartsLive
+fitting_harts_live script history words held within part fits = live_of script (limits_of script within) history words part held fits
+
+pub live_walks_were_right : LiveWalksWereRight
+live_walks_were_right script history words held p page part live walked =
+    let lives = subst (UnusedLives script history words held.hart) walked live.walk in
+    ⊎_elim
+    (λ is. was_now script history held.hart p.0 ((words_tell_host script.pages script.harts words (after script history) p.0 lives.1 part.stands.owners).1 is))
+    (λ was. was)
+    lives.2
