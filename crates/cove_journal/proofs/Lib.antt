@@ -1,3 +1,5 @@
 pub mod CallsRead
 pub mod HexRead
+pub mod JournalLines
+pub mod JournalsRead
 pub mod LinesRead
