@@ -17,6 +17,7 @@ use Rattle.cove_journal.specs.Lines.{last_line_of}
 use Rattle.cove_journal.specs.Reading.{entry_of}
 use Rattle.cove_journal.proofs.JournalLines.{entry_is, is_line, last_is, text_lines-ended}
 use Rattle.cove_journal.proofs.LinesRead.{entry_is_read}
+use Rattle.cove_journal.proofs.SizesRead.{entry_sized}
 
 -- ---- the lines of a journal
 
@@ -113,27 +114,29 @@ passed : {X : Type 0} (b : Bool) (o : Option X) (x : X) → (if b then o else No
 passed true o x e = (refl, e)
 passed false o x e = absurd (none-some x e)
 
--- the entry that a line shows has that line
+-- the entry that a line shows has that line, and numbers of 64 bits
 pub record IsShown (line : List ℕ) (entry : Entry) : Type 0 where
-  pub has : has_line entry ≡ true
+  pub has : is_readable entry ≡ true
   pub is : entry_line entry ≡ line
 
-if_shown : (line : List ℕ) (found entry : Entry) → if_shown_by line found ≡ Some entry → IsShown line entry
-if_shown line found entry e =
+if_shown : (line : List ℕ) (found entry : Entry) → is_sized found.event ≡ true → if_shown_by line found ≡ Some entry → IsShown line entry
+if_shown line found entry sized e =
     let both = passed (has_line found && bytes_eq (entry_line found) line) (Some found) entry e in
     let parts = and_parts (has_line found) (bytes_eq (entry_line found) line) both.0 in
     let same : found ≡ entry = same_Some found entry both.1 in
     record {
-      has = ap has_line (sym same) ∙ parts.0;
+      has = ap is_readable (sym same) ∙ and_from _ _ parts.0 sized;
       is = ap entry_line (sym same) ∙ (bytes_eq-Decides (entry_line found) line).0 parts.1;
     }
 
 pub shown : (line : List ℕ) (entry : Entry) → line_entry line ≡ Some entry → IsShown line entry
-shown line entry e = option_and_then_some (if_shown_by line) (entry_of (text_words line)) entry e (λ found is. if_shown line found entry)
+shown line entry e =
+    option_and_then_some (if_shown_by line) (entry_of (text_words line)) entry e
+    (λ found is. if_shown line found entry (entry_sized (text_words line) found is))
 
 -- the entries that lines show have those lines
 record AreShown (lines : List (List ℕ)) (history : List Entry) : Type 0 where
-  pub have : list_all has_line history ≡ true
+  pub have : list_all is_readable history ≡ true
   pub are : lines ≡ map entry_line history
 
 none_shown : (history : List Entry) → [] ≡ history → AreShown [] history
@@ -147,7 +150,7 @@ one_more line lines first others (entry ∷ history) one all e =
     let head : first ≡ entry = cc in
     let tail : others ≡ history = cc in
     record {
-      have = and_from _ _ (ap has_line (sym head) ∙ one.has) (ap (list_all has_line) (sym tail) ∙ all.have);
+      have = and_from _ _ (ap is_readable (sym head) ∙ one.has) (ap (list_all is_readable) (sym tail) ∙ all.have);
       are = ap (λ (l : List ℕ). l ∷ lines) (sym one.is ∙ ap entry_line head) ∙ ap (λ (ls : List (List ℕ)). entry_line entry ∷ ls) (all.are ∙ ap (map entry_line) tail);
     }
 
@@ -206,7 +209,7 @@ no_last_line true e = cc
 no_last_line false e = cc
 
 are_journal : (lines : List (List ℕ)) (history : List Entry) (whole : Bool) → ReadsAs (length lines - 1) lines history whole
-    → (list_all has_line history ≡ true) × (lines ≡ journal_lines whole history)
+    → (list_all is_readable history ≡ true) × (lines ≡ journal_lines whole history)
 are_journal [] history whole reads = absurd (no_last_line whole reads.last)
 are_journal (line ∷ lines) history whole reads =
     let n = length lines in
@@ -221,7 +224,7 @@ are_journal (line ∷ lines) history whole reads =
     )
 
 pub exact : (text : List ℕ) (history : List Entry) (whole : Bool) → journal_history text ≡ Some (history, whole)
-    → IsTrue (list_all has_line history) × (text ≡ (if whole then report history else report_limit history))
+    → IsTrue (list_all is_readable history) × (text ≡ (if whole then report history else report_limit history))
 exact text history whole e =
     let lines = text_lines text in
     let both = passed (bytes_eq (flat_map ended_line lines) text) (lines_history (length lines - 1) lines) (history, whole) e in

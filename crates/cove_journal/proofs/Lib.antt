@@ -3,3 +3,4 @@ pub mod HexRead
 pub mod JournalLines
 pub mod JournalsRead
 pub mod LinesRead
+pub mod SizesRead

@@ -2,7 +2,6 @@ ghost use Rattle.std.specs.Prelude.{◌≡◌, ℕ, Bool, true, false, List, Som
 ghost use Rattle.std.specs.List.{list_all};
 ghost use Rattle.cove_base.specs.declared.events.Entry.{Entry};
 ghost use Rattle.cove_model.specs.Reports.{report, report_limit};
-ghost use Rattle.cove_journal.specs.Forms.{has_line};
 ghost use Rattle.cove_journal.specs.Journals.{is_readable, journal_history};
 
 /// A journal that is printed and read again is the history: it reads as the history that it was printed of, and
@@ -15,7 +14,7 @@ pub fn journals_are_read_back()
         → journal_history (report_limit history) ≡ Some (history, false) }
     ensures exact { (text : List ℕ) (history : List Entry) (whole : Bool)
         → journal_history text ≡ Some (history, whole)
-        → IsTrue (list_all has_line history) × (text ≡ (if whole then report history else report_limit history)) }
+        → IsTrue (list_all is_readable history) × (text ≡ (if whole then report history else report_limit history)) }
     ensures one { (history other : List Entry)
         → IsTrue (list_all is_readable history) → IsTrue (list_all is_readable other)
         → report history ≡ report other → history ≡ other }

@@ -35,7 +35,8 @@ use Rattle.cove_model.proofs.Runs.{change_cases, opening_page, opening_past, pag
 use Rattle.cove_model.proofs.Soundness.{sound}
 use Rattle.cove_model.proofs.Usable.{after_harts, entry_on_board}
 use Rattle.cove_model.proofs.WithinLimits.{limits_of}
-use Rattle.cove_run.proofs.ScriptNumbers.{IsMachineScript, fill_fits, index_fits, line_fits, script_line_fits}
+use Rattle.cove_journal.proofs.SizesRead.{index_fits}
+use Rattle.cove_run.proofs.ScriptNumbers.{IsMachineScript, fill_fits, line_fits, script_line_fits}
 
 -- ---- words of the pages
 

@@ -1,14 +1,12 @@
 -- A script that a text spells keeps the limits, its numbers have 64 bits, and its bytes 8.
-use Rattle.std.proofs.Common.{◌≡◌, ℕ, zero, suc, ◌+◌, ◌^◌, ◌<◌, ◌≤◌, Bool, true, false, ◌==◌, ◌&&◌, not, nat_eq, nat_lt, List, [], ◌∷◌, ◌++◌, length, map, drop, cond, find, Option, Some, None, option_map, unwrap_or, Result, Ok, Err, codes, bytes_eq, IsTrue, refl, sym, ap, subst, ◌∙◌, arith}
-use Rattle.std.specs.Prelude.{if◌then◌else◌, slice_index}
-use Rattle.std.specs.List.{list_all, starts_with}
-use Rattle.std.specs.Str.Parse.{digits_value}
+use Rattle.std.proofs.Common.{◌≡◌, ℕ, ◌+◌, ◌^◌, ◌<◌, ◌≤◌, Bool, true, false, ◌&&◌, not, nat_lt, List, [], ◌∷◌, ◌++◌, length, map, cond, Option, Some, None, option_map, unwrap_or, Result, Ok, Err, codes, bytes_eq, IsTrue, refl, subst, ◌∙◌, arith}
+use Rattle.std.specs.Prelude.{if◌then◌else◌}
+use Rattle.std.specs.List.{list_all}
 use Rattle.std.proofs.lemmas.Bool.{and_from, and_parts, ltb-false}
 use Rattle.std.proofs.lemmas.Bool.Decides.{nat_tests}
 use Rattle.std.proofs.lemmas.List.Folds.{list_all-append}
-use Rattle.std.proofs.lemmas.Option.{same_Some}
-use Rattle.cove_base.specs.CallWords.{arguments, call_of, calls_with, word_of}
-use Rattle.cove_base.specs.Numbers.{bytes_of_hex, is_hex_digit, is_numeral, is_odd, value_of_numeral}
+use Rattle.cove_base.specs.CallWords.{arguments, call_of}
+use Rattle.cove_base.specs.Numbers.{bytes_of_hex, is_hex_digit, is_odd, number_of}
 use Rattle.cove_base.specs.Scripts.{ScriptValue, is_within_limits}
 use Rattle.cove_base.specs.Text.{text_lines, text_words}
 use Rattle.cove_base.specs.declared.calls.HostCall.{HostCall}
@@ -23,24 +21,18 @@ use Rattle.cove_journal.specs.Forms.{is_byte, is_word}
 use Rattle.cove_model.specs.Grammar.{BoardLine, Content, EndLine, FillLine, HartAlone, HartLine, KeyLine, PhaseLine, TurnsLine, Unknown, Word, after, bytes_of, content_of, fault_at, fill_of, has_ended, is_ascii, is_remark, judged, line_of, line_read, lines_read, load_of, opening_reading, script_in, script_lines, script_of, store_of, then_read, value, words_read}
 use Rattle.cove_model.specs.declared.readings.Reading.{Reading}
 use Rattle.cove_model.proofs.GrammarLimits.{IsSound, Keeps, accepted, line_keeps, opening_is_sound, sound_is_within}
+use Rattle.cove_journal.proofs.SizesRead.{call_fits, call_of_fits, number_fits}
 use Rattle.cove_script.proofs.LoopOverLines.{text_lines_few}
 
 -- ---- numbers of words
 
-numeral_fits : (base most : ℕ) (digits : List ℕ) → is_word (unwrap_or (value_of_numeral base most digits) 0) ≡ true
-numeral_fits base most digits = go (is_numeral base most digits) refl
-  where
-    go : (b : Bool) → is_numeral base most digits ≡ b → is_word (unwrap_or (if b then Some (digits_value base digits) else None) 0) ≡ true
-    go true e = (and_parts _ (nat_lt (digits_value base digits) (2 ^ 64)) e).1
-    go false e = refl
-
 value_fits : (word : Word) → is_word (value word) ≡ true
 unfolding value
-value_fits word = go (starts_with nat_eq word (codes "0x"))
+value_fits word = go (number_of word) refl
   where
-    go : (b : Bool) → is_word (unwrap_or (if b then value_of_numeral 16 16 (drop 2 word) else value_of_numeral 10 20 word) 0) ≡ true
-    go true = numeral_fits 16 16 (drop 2 word)
-    go false = numeral_fits 10 20 word
+    go : (o : Option ℕ) → number_of word ≡ o → is_word (unwrap_or o 0) ≡ true
+    go None e = refl
+    go (Some n) e = number_fits word n e
 
 values_fit : (words : List Word) → list_all is_word (map value words) ≡ true
 values_fit [] = refl
@@ -69,33 +61,11 @@ bytes_fit word = go (not (is_odd word) && list_all is_hex_digit word) refl
 
 -- ---- lines of harts
 
-pub index_fits : (ns : List ℕ) (i : ℕ) → list_all is_word ns ≡ true → is_word (slice_index ns i) ≡ true
-index_fits [] i e = refl
-index_fits (n ∷ ns) zero e = (and_parts (is_word n) (list_all is_word ns) e).0
-index_fits (n ∷ ns) (suc i) e = index_fits ns i (and_parts (is_word n) (list_all is_word ns) e).1
-
 -- the numbers of a line fit
 abbrev pub line_fits : Line → Bool
 line_fits (lines.Call call) = list_all is_word (arguments call)
 line_fits (lines.Load addr) = is_word addr
 line_fits (lines.Store addr value) = is_word addr && is_word value
-
-abbrev call_fits : HostCall → Bool
-call_fits call = list_all is_word (arguments call)
-
-calls_fit : (args : List ℕ) → list_all is_word args ≡ true → list_all call_fits (calls_with args) ≡ true
-calls_fit args e = rw (index_fits args 0 e, index_fits args 1 e, index_fits args 2 e, index_fits args 3 e, index_fits args 4 e) refl
-
-found_fits : (p : HostCall → Bool) (calls : List HostCall) (call : HostCall) → list_all call_fits calls ≡ true → find p calls ≡ Some call → call_fits call ≡ true
-found_fits p [] call all e = absurd cc
-found_fits p (first ∷ calls) call all e = go (p first) e (found_fits p calls call parts.1)
-  where
-    parts : (call_fits first ≡ true) × (list_all call_fits calls ≡ true)
-    parts = and_parts (call_fits first) (list_all call_fits calls) all
-
-    go : (b : Bool) → cond b (Some first) (find p calls) ≡ Some call → (find p calls ≡ Some call → call_fits call ≡ true) → call_fits call ≡ true
-    go true same more = ap call_fits (sym (same_Some first call same)) ∙ parts.0
-    go false later more = more later
 
 abbrev option_fits : Option Line → Bool
 option_fits None = true
@@ -125,7 +95,7 @@ line_of_fits word args e = go (bytes_eq word (codes "ld")) (bytes_eq word (codes
     go : (b c : Bool) → option_fits (if b then load_of args else (if c then store_of args else option_map lines.Call (call_of word args))) ≡ true
     go true c = load_fits args e
     go false true = store_fits args e
-    go false false = made_fits (call_of word args) (λ call found. found_fits (λ c. length args == length (arguments c) && bytes_eq word (word_of c)) (calls_with args) call (calls_fit args e) found)
+    go false false = made_fits (call_of word args) (λ call found. call_of_fits word args call e found)
 
 -- ---- a reading
 
