@@ -1,4 +1,4 @@
-ghost use Rattle.std.specs.Prelude.{◌≡◌, ◌<◌, ◌++◌, [], ◌∷◌, length};
+ghost use Rattle.std.specs.Prelude.{◌≡◌, ◌<◌, ◌≤◌, ◌++◌, [], ◌∷◌, length};
 
 use crate::limits::QUOTE_LIMIT;
 use std::marker::Model;
@@ -43,7 +43,8 @@ impl Quote {
 
     /// The bytes.
     pub fn as_slice(&self) -> &[u8]
-        ensures { result.now ≡ self.now }
+        ensures bytes { result.now ≡ self.now }
+        ensures fits { length result.now ≤ QUOTE_LIMIT }
     {
         &self.bytes[..self.len]
     }

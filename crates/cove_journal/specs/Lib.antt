@@ -1,3 +1,4 @@
 pub mod Forms
+pub mod Journals
 pub mod Lines
 pub mod Reading

@@ -2,6 +2,7 @@ ghost use Rattle.std.specs.Prelude.{◌≡◌, IfSome, IsTrue};
 ghost use Rattle.cove_base.specs.declared.events.Entry.{Entry};
 ghost use Rattle.cove_model.specs.Reports.{entry_line};
 ghost use Rattle.cove_journal.specs.Forms.{has_line, is_act_shown, is_event_shown, is_exit_shown, is_fault_cause, is_sized, is_trap_cause};
+ghost use Rattle.cove_journal.specs.Journals.{line_entry};
 
 use crate::reading::read_entry;
 use crate::writing::line;
@@ -11,6 +12,7 @@ use cove_text::LineBuf;
 /// The entry of a line without its line feed: none where the bytes are not exactly what `line` writes for an
 /// entry that has a line.
 pub fn parse_line(bytes: &[u8]) -> Option<Entry>
+    ensures reads { result ≡ line_entry bytes.now }
     ensures lines { IfSome result (λ entry. IsTrue (has_line entry) × (entry_line entry ≡ bytes.now)) }
     ensures finds { (entry : Entry) → IsTrue (has_line entry) → IsTrue (is_sized entry.event) → entry_line entry ≡ bytes.now → result ≡ Some entry }
 {

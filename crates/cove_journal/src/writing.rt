@@ -8,7 +8,7 @@ use cove_base::{Entry, Event, Exit, GuestAct, How, QUOTE_LIMIT, Reply};
 use cove_text::{LINE_LIMIT, LineBuf, put_call, put_decimal, put_hex, put_number};
 
 /// Writes the line of an entry in place of what the buffer held, without a line feed. The page of a fault is one
-/// of 2^52, and a quote has at most 512 bytes.
+/// of 2^52.
 pub fn line(entry: &Entry, out: &mut LineBuf)
     requires { IsTrue (is_writable entry.now.event) }
     ensures text { out.new ≡ entry_line entry.now }

@@ -50,7 +50,7 @@ event_writable script S h (events.Fetch how) may = refl
 event_writable script S h events.Exec may = refl
 event_writable script S h (events.Access how) may = refl
 event_writable script S h (events.Guest act reply) may = refl
-event_writable script S h (events.Evidence quote) may = absurd may.1
+event_writable script S h (events.Evidence quote) may = refl
 event_writable script S h (events.Exit exit) may = absurd may.1
 
 each_writable : (script : ScriptValue) (before history : List Entry) → EachEntry (λ pre entry. Allows script (after script pre) entry.hart.0 entry.event) before history → AreWritable history

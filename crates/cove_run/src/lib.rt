@@ -1,13 +1,16 @@
 #![tactic(auto)]
 //! The top call of the program. `tsm_alone` reads a script, runs it and prints its journal; its clauses `done` and
 //! `limit` are the headline: the printed journal is that of one legal history of the script, in which no page
-//! changes hands while a translation of a hart names it. Its other clauses say when each other status comes. It
-//! stands on `cove_model`, which has the definitions, on `cove_script`, `cove_core` and `cove_journal`, which read
-//! the script, run it and write its lines, and on `cove_io`.
+//! changes hands while a translation of a hart names it. Its other clauses say when each other status comes.
+//! `printed_journals_are_read_back` says that the printed journal reads as that history. The crate stands on
+//! `cove_model`, which has the definitions, on `cove_script`, `cove_core` and `cove_journal`, which read the script,
+//! run it and write its lines, and on `cove_io`.
 
+mod journals;
 mod printing;
 #[cfg(test)]
 mod tests;
 mod top;
 
+pub use journals::printed_journals_are_read_back;
 pub use top::{USAGE, tsm_alone};
