@@ -39,8 +39,7 @@ use Rattle.cove_hart.specs.Needs.{access_need, line_need, next_need}
 use Rattle.cove_hart.specs.declared.needs.Need.TheVariants as needs
 use Rattle.cove_model.proofs.AtTheEnd.{each_last}
 use Rattle.cove_model.proofs.Beginning.{due, offered}
-use Rattle.cove_model.proofs.OneHart.{turn_full, turn_open}
-use Rattle.cove_model.proofs.Playing.{noted_other, noted_same}
+use Rattle.cove_model.proofs.Playing.{noted_other, noted_same, turn_full, turn_open}
 use Rattle.cove_model.proofs.ToldProofs.{words_are_words, words_tell_host}
 use Rattle.cove_model.proofs.WithinLimits.{Limits, limits_of}
 use Rattle.cove_model.specs.Cached.{IsReached}

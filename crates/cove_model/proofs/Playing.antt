@@ -20,8 +20,8 @@ use Rattle.cove_model.specs.Played.{Choice, Faults, Found, Missing, Note, Play, 
 use Rattle.cove_model.specs.States.{State, ended_by, harts_below, page_of, word_at}
 use Rattle.cove_model.specs.Steps.{Allows, MaySucceed}
 use Rattle.cove_model.specs.Tlbs.{tlb}
-use Rattle.std.proofs.Common.{Bool, List, None, Option, Some, [], ap, append-nil, append_assoc, cond, eq-eqb, eqb, false, fold, inl, inr, length, nat_lt, ne_eqb, refl, suc, sym, true, zero, ℕ, ⊎_elim, ◌++◌, ◌∙◌, ◌∷◌, ◌≡◌, ◌⊎◌}
-use Rattle.std.proofs.lemmas.Bool.{cases_eq, cond-false, cond-true, cond_both}
+use Rattle.std.proofs.Common.{Bool, List, None, Option, Some, [], ap, append-nil, append_assoc, cond, eq-eqb, eqb, false, fold, inl, inr, length, nat_lt, ne_eqb, refl, suc, sym, true, zero, ℕ, ⊎_elim, ◌++◌, ◌<◌, ◌∙◌, ◌∷◌, ◌≡◌, ◌≤◌, ◌⊎◌}
+use Rattle.std.proofs.lemmas.Bool.{cases_eq, cond-false, cond-true, cond_both, le-ltb, lt-ltb}
 use Rattle.std.proofs.lemmas.Option.{same_Some}
 use Rattle.cove_base.specs.declared.events.Event.TheVariants as events
 use Rattle.cove_base.specs.declared.scripts.Line.TheVariants as lines
@@ -60,6 +60,18 @@ was_longer script H e h p ne was = record {
 
 pub was_now : (script : ScriptValue) (H : List Entry) (h p : ℕ) → is_host (page_at (after script H).pages p) ≡ true → WasHost script H h p
 was_now script H h p host = record { earlier = H; since = []; split = sym (append-nil H); silent = refl; host = host }
+
+-- ---- turns and rounds
+
+pub turn_full : (limit : ℕ) (script : ScriptValue) (play : Play) (h : ℕ) → limit ≤ length play.history → turn limit script play h ≡ play
+turn_full limit script play h full = cond-false (nat_lt (length play.history) limit) _ play (le-ltb (length play.history) limit full)
+
+pub turn_open : (limit : ℕ) (script : ScriptValue) (play : Play) (h : ℕ) → length play.history < limit → turn limit script play h ≡ offer_turn script play (after script play.history) h (offer script (after script play.history) h)
+turn_open limit script play h room = cond-true (nat_lt (length play.history) limit) _ play (lt-ltb (length play.history) limit room)
+
+pub rounds_stay : (limit : ℕ) (script : ScriptValue) (n : ℕ) (play : Play) → round limit script play ≡ play → rounds limit script n play ≡ play
+rounds_stay limit script zero play e = refl
+rounds_stay limit script (suc n) play e = ap (rounds limit script n) e ∙ rounds_stay limit script n play e
 
 -- ---- an entry keeps a play fitting
 

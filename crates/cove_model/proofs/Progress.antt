@@ -6,8 +6,7 @@ use Rattle.cove_base.specs.declared.scripts.Line.{Line}
 use Rattle.cove_base.specs.declared.scripts.ScriptLine.{ScriptLine}
 use Rattle.cove_model.proofs.Beginning.{offered}
 use Rattle.cove_model.proofs.Members.{below_has, false-true}
-use Rattle.cove_model.proofs.OneHart.{rounds_stay, turn_full, turn_open}
-use Rattle.cove_model.proofs.Playing.{ChoiceFacts, choice_facts, noted_other, noted_same}
+use Rattle.cove_model.proofs.Playing.{ChoiceFacts, choice_facts, noted_other, noted_same, rounds_stay, turn_full, turn_open}
 use Rattle.cove_model.specs.Effects.{reply_to}
 use Rattle.cove_model.specs.Histories.{after}
 use Rattle.cove_model.specs.Offers.{Behind, Next, Nothing, Offer, first_behind, is_behind, is_earlier, offer}

@@ -1,9 +1,7 @@
 -- The history that a script plays by turns.
 use Rattle.std.specs.Prelude.{◌≡◌, ℕ, zero, suc, ◌+◌, ◌*◌, ◌<◌, ◌≤◌, ◌⊎◌, ◌==◌, Bool, true, false, nat_lt, if◌then◌else◌, List, [], ◌∷◌, ◌++◌, length, fold, None}
-use Rattle.std.specs.List.{AllByRecursion}
 use Rattle.cove_base.specs.HartLines.{next_line}
 use Rattle.cove_base.specs.Scripts.{ScriptValue}
-use Rattle.cove_base.specs.declared.calls.HostCall.{HostCall}
 use Rattle.cove_base.specs.declared.events.Entry.{Entry}
 use Rattle.cove_base.specs.declared.events.Event.{Event}
 use Rattle.cove_base.specs.declared.events.Event.TheVariants as events
@@ -11,12 +9,11 @@ use Rattle.cove_base.specs.declared.events.How.{How}
 use Rattle.cove_base.specs.declared.events.How.TheVariants.{Hit, Walk}
 use Rattle.cove_base.specs.declared.scripts.Line.{Line}
 use Rattle.cove_base.specs.declared.scripts.Line.TheVariants as lines
-use Rattle.cove_base.specs.declared.scripts.ScriptLine.{ScriptLine}
 use Rattle.cove_model.specs.Owners.{has, is_host, page_at}
 use Rattle.cove_model.specs.States.{State, harts_below, ended_by, page_of, word_at}
 use Rattle.cove_model.specs.Effects.{reply_to}
 use Rattle.cove_model.specs.Offers.{Offer, Nothing, Behind, Next, offer}
-use Rattle.cove_model.specs.Histories.{after, after_entry}
+use Rattle.cove_model.specs.Histories.{after}
 use Rattle.cove_model.specs.Tlbs.{tlb}
 
 -- what a hart knows of a walk that it made and did not use yet
@@ -129,29 +126,3 @@ IsOver script history =
 -- nothing is left, or the limit was reached
 abbrev pub IsEnded : (limit : ℕ) → ScriptValue → List Entry → Type 0
 IsEnded limit script history = (limit ≤ length history) ⊎ IsOver script history
-
--- the entry of a call, with its reply
-abbrev pub call_entry : State → (hart : ℕ) → HostCall → Entry
-call_entry S h call = entry_by h (events.Call call (reply_to S h call))
-
--- the entry of a line that is a call
-abbrev pub entry_of : State → (hart : ℕ) → Line → List Entry
-entry_of S h (lines.Call call) = call_entry S h call ∷ []
-entry_of S h (lines.Load addr) = []
-entry_of S h (lines.Store addr value) = []
-
--- the entries of calls that are answered one after another, from a state on
-abbrev pub alone : State → List ScriptLine → List Entry
-alone S [] = []
-alone S (line ∷ rest) =
-    entry_of S line.hart.0 line.line ++ alone (fold after_entry S (entry_of S line.hart.0 line.line)) rest
-
--- the line is a call
-abbrev pub IsCall : Line → Type 0
-IsCall (lines.Call call) = Unit {0}
-IsCall (lines.Load addr) = ⊥
-IsCall (lines.Store addr value) = ⊥
-
--- every line of a script is a call
-abbrev pub AreCalls : ScriptValue → Type 0
-AreCalls script = AllByRecursion (λ line. IsCall line.line) script.lines

@@ -25,7 +25,7 @@ ghost use Rattle.cove_model.specs.Follows.{Begins, Follows, told};
 ghost use Rattle.cove_model.specs.Histories.{Legal, after, after_entry, own};
 ghost use Rattle.cove_model.specs.Offers.{Next, NoneEarlier, first_behind, offer};
 ghost use Rattle.cove_model.specs.Owners.{has, is_host, may_use, page_at};
-ghost use Rattle.cove_model.specs.Played.{AreCalls, IsEnded, IsOver, Play, alone, played, round};
+ghost use Rattle.cove_model.specs.Played.{IsEnded, IsOver, Play, played, round};
 ghost use Rattle.cove_model.specs.Refusals.{is_built, not_supported, refusal};
 ghost use Rattle.cove_model.specs.Reports.{ended_line, entry_line, entry_lines, report};
 ghost use Rattle.cove_model.specs.Sound.{IsBoardOf, IsSound};
@@ -164,13 +164,6 @@ pub fn played_histories_are_legal()
 pub fn still_rounds_are_last()
     ensures { (limit : ℕ) (script : ScriptValue) (play : Play)
         → round limit script play ≡ play → IsEnded limit script play.history }
-{}
-
-/// A script of one hart whose lines are calls plays their answers, one after another.
-pub fn one_hart_plays_its_answers()
-    ensures { (limit : ℕ) (script : ScriptValue)
-        → IsTrue (is_within_limits script) → script.harts ≡ 1 → AreCalls script → length script.lines ≤ limit
-        → played limit script ≡ alone (opening script) script.lines }
 {}
 
 /// The first check that fails answers: on a fresh board of 16 pages, and for a page that is converted twice.
