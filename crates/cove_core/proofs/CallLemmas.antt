@@ -8,9 +8,8 @@ use Rattle.cove_base.specs.declared.calls.HostCall.{HostCall}
 use Rattle.cove_base.specs.declared.statuses.Reply.{Reply}
 use Rattle.cove_core.specs.Called.{Called, no_tables}
 use Rattle.cove_core.specs.Replies.{accepted}
-use Rattle.cove_model.specs.Effects.{answer_by, state_by, effect, value_of}
+use Rattle.cove_model.specs.Effects.{answer_by, state_by, effect, value_of, refusal}
 use Rattle.cove_model.specs.LawfulStores.{IsLawful, AllowsLawful}
-use Rattle.cove_model.specs.Refusals.{refusal}
 use Rattle.cove_model.specs.States.{State}
 use Rattle.cove_model.specs.WordLaws.{Stand}
 use Rattle.cove_model.specs.WordsStand.{FramesStand, epoch_in}

@@ -14,15 +14,15 @@ use Rattle.cove_model.proofs.Runs.{change_cases}
 use Rattle.cove_model.proofs.Soundness.{Converts, Fences, Move, Reclaims, Responds, Same, Stores, moves, sound}
 use Rattle.cove_model.proofs.WithinLimits.{IsWithin, Limits}
 use Rattle.cove_model.specs.Cached.{WasHost}
-use Rattle.cove_model.specs.Effects.{answer_by, effect, state_by, value_of}
+use Rattle.cove_model.specs.Effects.{answer_by, effect, refusal, state_by, value_of}
 use Rattle.cove_model.specs.Examples.{call}
 use Rattle.cove_model.specs.Histories.{Legal, after, own}
 use Rattle.cove_model.specs.Owners.{Converting, Free, Given, Host, Owner, TheHost, answered, change, converted, fenced, has, holder, is_host, may_use, page_at, reclaimed, settled, stored, without}
-use Rattle.cove_model.specs.Refusals.{refusal}
 use Rattle.cove_model.specs.Sound.{IsSound, IsSoundPage}
 use Rattle.cove_model.specs.States.{State, ended_by, harts_below, page_of, place_of}
 use Rattle.cove_model.specs.Steps.{Answers, after_event, asked, done}
-use Rattle.cove_model.specs.Tlbs.{Tlb, after_call, is_success, nothing_held, renewed, tlb}
+use Rattle.cove_base.specs.Statuses.{is_success}
+use Rattle.cove_model.specs.Tlbs.{Tlb, after_call, nothing_held, renewed, tlb}
 use Rattle.std.proofs.Common.{Bool, List, None, Option, Some, T, [], ap, append-nil, append_assoc, arith, cond, eqb, eqb-true, false, filter, refl, slice_get, subst, suc, sym, true, zero, ℕ, ⊎_elim, ◌++◌, ◌/◌, ◌<◌, ◌∙◌, ◌∷◌, ◌≡◌, ◌≤◌}
 use Rattle.std.proofs.lemmas.Bool.{cases_eq, cases_lt}
 use Rattle.std.proofs.lemmas.Option.{none-some, same_Some}

@@ -1,52 +1,13 @@
 -- The journal: one line for each entry, and a last line.
-use Rattle.std.specs.Prelude.{ℕ, ◌*◌, List, [], ◌∷◌, ◌++◌, length, flat_map, codes}
-use Rattle.std.specs.Int.{to_be_bytes, w64}
+use Rattle.std.specs.Prelude.{ℕ, List, [], ◌∷◌, ◌++◌, length, flat_map, codes}
 use Rattle.cove_base.specs.CallWords.{call_text}
-use Rattle.cove_base.specs.Numbers.{natural_text, number_text, decimal_text, hex_text}
-use Rattle.cove_base.specs.Statuses.{code_of}
-use Rattle.cove_base.specs.declared.calls.GuestAct.{GuestAct}
-use Rattle.cove_base.specs.declared.calls.GuestAct.TheVariants as acts
+use Rattle.cove_base.specs.EventWords.{spaced, how_text, word_text, reply_text, act_text, exit_text}
+use Rattle.cove_base.specs.Numbers.{natural_text, number_text, hex_text}
 use Rattle.cove_base.specs.declared.events.Entry.{Entry}
 use Rattle.cove_base.specs.declared.events.Event.{Event}
 use Rattle.cove_base.specs.declared.events.Event.TheVariants as events
-use Rattle.cove_base.specs.declared.events.Exit.{Exit}
-use Rattle.cove_base.specs.declared.events.Exit.TheVariants as exits
-use Rattle.cove_base.specs.declared.events.How.{How}
-use Rattle.cove_base.specs.declared.events.How.TheVariants.{Hit, Walk}
-use Rattle.cove_base.specs.declared.statuses.Reply.{Reply}
 
--- a word after a space
-abbrev pub spaced : List ℕ → List ℕ
-spaced word = 32 ∷ word
-
-abbrev pub how_text : How → List ℕ
-how_text Hit = codes "hit"
-how_text Walk = codes "walk"
-
--- a word of memory: 16 hex digits, the highest first
-abbrev pub word_text : ℕ → List ℕ
-word_text value = hex_text (to_be_bytes w64 value)
-
--- an answer: its status and its value
-abbrev pub reply_text : Reply → List ℕ
-reply_text reply = codes "= " ++ decimal_text (code_of reply.status) ++ spaced (number_text reply.value)
-
-abbrev pub act_text : GuestAct → List ℕ
-act_text (acts.Share gpa len) = codes "share" ++ spaced (number_text gpa) ++ spaced (number_text len)
-act_text (acts.Unshare gpa len) = codes "unshare" ++ spaced (number_text gpa) ++ spaced (number_text len)
-act_text acts.Extend = codes "extend"
-act_text acts.Evidence = codes "evidence"
-act_text (acts.Allow id) = codes "allow" ++ spaced (number_text id)
-act_text (acts.Deny id) = codes "deny" ++ spaced (number_text id)
-act_text acts.Other = codes "other"
-
-abbrev pub exit_text : Exit → List ℕ
-exit_text exits.Fuel = codes "fuel"
-exit_text exits.Kicked = codes "kicked"
-exit_text exits.Wfi = codes "wfi"
-exit_text (exits.Fault cause page) = codes "fault" ++ spaced (natural_text cause) ++ spaced (number_text (page.0 * 4096))
-exit_text (exits.Trap cause) = codes "trap" ++ spaced (natural_text cause)
-
+-- what an event prints after its hart
 abbrev pub event_text : Event → List ℕ
 event_text (events.Call call reply) = call_text call ++ spaced (reply_text reply)
 event_text (events.Load addr how value) =

@@ -1,8 +1,9 @@
 -- The translations that a hart holds after a history.
-use Rattle.std.specs.Prelude.{ℕ, ◌==◌, ◌||◌, Bool, true, false, if◌then◌else◌, List, [], ◌∷◌, ◌++◌}
+use Rattle.std.specs.Prelude.{ℕ, ◌==◌, ◌||◌, Bool, if◌then◌else◌, List, [], ◌∷◌, ◌++◌}
 use Rattle.std.specs.List.{list_any}
 use Rattle.cove_base.specs.Rings.{keep_last, ring_room}
 use Rattle.cove_base.specs.Scripts.{ScriptValue}
+use Rattle.cove_base.specs.Statuses.{is_success}
 use Rattle.cove_base.specs.declared.calls.GuestAct.{GuestAct}
 use Rattle.cove_base.specs.declared.calls.GuestAct.TheVariants as acts
 use Rattle.cove_base.specs.declared.calls.HostCall.{HostCall}
@@ -12,8 +13,6 @@ use Rattle.cove_base.specs.declared.events.Event.{Event}
 use Rattle.cove_base.specs.declared.events.Event.TheVariants as events
 use Rattle.cove_base.specs.declared.events.How.{How}
 use Rattle.cove_base.specs.declared.events.How.TheVariants.{Hit, Walk}
-use Rattle.cove_base.specs.declared.statuses.Status.{Status}
-use Rattle.cove_base.specs.declared.statuses.Status.TheVariants as statuses
 use Rattle.cove_model.specs.Histories.{after_entry}
 use Rattle.cove_model.specs.Owners.{has}
 use Rattle.cove_model.specs.States.{State, opening, page_of}
@@ -36,17 +35,6 @@ without_guests held = record held { fetches = []; accesses = [] }
 abbrev pub filled : How → (p : ℕ) → List ℕ → List ℕ
 filled Hit p pages = pages
 filled Walk p pages = keep_last ring_room (pages ++ p ∷ [])
-
-abbrev pub is_success : Status → Bool
-is_success statuses.Success = true
-is_success statuses.Failed = false
-is_success statuses.NotSupported = false
-is_success statuses.InvalidParam = false
-is_success statuses.Denied = false
-is_success statuses.InvalidAddress = false
-is_success statuses.AlreadyAvailable = false
-is_success statuses.AlreadyStarted = false
-is_success statuses.AlreadyStopped = false
 
 -- the translations after a call: an accepted global fence and every local fence empty all, an accepted run those of guests
 abbrev pub after_call : HostCall → (accepted : Bool) → Tlb → Tlb

@@ -20,13 +20,12 @@ ghost use Rattle.cove_base.specs.declared.statuses.Status.TheVariants.{InvalidAd
 ghost use Rattle.cove_model.specs.Cached.{IsCached, IsQuiet, IsQuietAt, IsReached, WasHost};
 ghost use Rattle.cove_model.specs.Examples.{board, during_a_fence, during_a_fence_history, faulted, fresh, load, refused, stale, stale_history, text, there_and_back, there_and_back_history};
 ghost use Rattle.cove_model.specs.Fits.{Fits, IsSought, after_own};
-ghost use Rattle.cove_model.specs.Effects.{state_after};
+ghost use Rattle.cove_model.specs.Effects.{is_built, not_supported, refusal, state_after};
 ghost use Rattle.cove_model.specs.Follows.{Begins, Follows, told};
 ghost use Rattle.cove_model.specs.Histories.{Legal, after, after_entry, own};
 ghost use Rattle.cove_model.specs.Offers.{Next, NoneEarlier, first_behind, offer};
 ghost use Rattle.cove_model.specs.Owners.{has, is_host, may_use, page_at};
 ghost use Rattle.cove_model.specs.Played.{IsEnded, IsOver, Play, played, round};
-ghost use Rattle.cove_model.specs.Refusals.{is_built, not_supported, refusal};
 ghost use Rattle.cove_model.specs.Reports.{ended_line, entry_line, entry_lines, report};
 ghost use Rattle.cove_model.specs.Sound.{IsBoardOf, IsSound};
 ghost use Rattle.cove_model.specs.States.{State, ended_by, opening};
