@@ -4,9 +4,7 @@ use Rattle.std.specs.Int.{to_be_bytes, w64}
 use Rattle.cove_base.specs.Numbers.{natural_text, number_text, decimal_text, hex_text}
 use Rattle.cove_base.specs.Statuses.{code_of}
 use Rattle.cove_base.specs.declared.calls.GuestAct.{GuestAct}
-use Rattle.cove_base.specs.declared.calls.GuestAct.TheVariants as acts
 use Rattle.cove_base.specs.declared.events.Exit.{Exit}
-use Rattle.cove_base.specs.declared.events.Exit.TheVariants as exits
 use Rattle.cove_base.specs.declared.events.How.{How}
 use Rattle.cove_base.specs.declared.events.How.TheVariants.{Hit, Walk}
 use Rattle.cove_base.specs.declared.statuses.Reply.{Reply}
@@ -30,18 +28,18 @@ reply_text reply = codes "= " ++ decimal_text (code_of reply.status) ++ spaced (
 
 -- an act of a guest: its word and its arguments
 abbrev pub act_text : GuestAct → List ℕ
-act_text (acts.Share gpa len) = codes "share" ++ spaced (number_text gpa) ++ spaced (number_text len)
-act_text (acts.Unshare gpa len) = codes "unshare" ++ spaced (number_text gpa) ++ spaced (number_text len)
-act_text acts.Extend = codes "extend"
-act_text acts.Evidence = codes "evidence"
-act_text (acts.Allow id) = codes "allow" ++ spaced (number_text id)
-act_text (acts.Deny id) = codes "deny" ++ spaced (number_text id)
-act_text acts.Other = codes "other"
+act_text (GuestAct.Share gpa len) = codes "share" ++ spaced (number_text gpa) ++ spaced (number_text len)
+act_text (GuestAct.Unshare gpa len) = codes "unshare" ++ spaced (number_text gpa) ++ spaced (number_text len)
+act_text GuestAct.Extend = codes "extend"
+act_text GuestAct.Evidence = codes "evidence"
+act_text (GuestAct.Allow id) = codes "allow" ++ spaced (number_text id)
+act_text (GuestAct.Deny id) = codes "deny" ++ spaced (number_text id)
+act_text GuestAct.Other = codes "other"
 
 -- why a guest was left
 abbrev pub exit_text : Exit → List ℕ
-exit_text exits.Fuel = codes "fuel"
-exit_text exits.Kicked = codes "kicked"
-exit_text exits.Wfi = codes "wfi"
-exit_text (exits.Fault cause page) = codes "fault" ++ spaced (natural_text cause) ++ spaced (number_text (page.0 * 4096))
-exit_text (exits.Trap cause) = codes "trap" ++ spaced (natural_text cause)
+exit_text Exit.Fuel = codes "fuel"
+exit_text Exit.Kicked = codes "kicked"
+exit_text Exit.Wfi = codes "wfi"
+exit_text (Exit.Fault cause page) = codes "fault" ++ spaced (natural_text cause) ++ spaced (number_text (page.0 * 4096))
+exit_text (Exit.Trap cause) = codes "trap" ++ spaced (natural_text cause)

@@ -1,12 +1,9 @@
 -- What each call needs and does, and what it is answered.
-use Rattle.std.specs.Prelude.{ℕ, ◌/◌, Bool, List, [], ◌∷◌, map, Option, Some, None, is_some}
-use Rattle.cove_base.specs.declared.calls.HostCall.{HostCall}
-use Rattle.cove_base.specs.declared.calls.HostCall.TheVariants.{Convert, GlobalFence, LocalFence, Reclaim, Create, Region, Tables, Measured, Vcpu, Finalize, Zero, Shared, Run, Invalidate, TvmFence, Validate, Remove, Destroy, Kick, Info, Bind, Unbind, Unbound, Inject}
-use Rattle.cove_base.specs.declared.statuses.Reply.{Reply}
-use Rattle.cove_base.specs.declared.statuses.Status.TheVariants.{Success, NotSupported}
+use Rattle.std.specs.Prelude.{ℕ, ◌/◌, Bool, true, List, [], ◌∷◌, map, Option, Some, None, is_some, unwrap_or}
+use Rattle.cove_model.specs.Types.{HostCall, Convert, GlobalFence, LocalFence, Reclaim, Create, Region, Tables, Measured, Vcpu, Finalize, Zero, Shared, Run, Invalidate, TvmFence, Validate, Remove, Destroy, Kick, Info, Bind, Unbind, Unbound, Inject, Reply, Success, NotSupported}
 use Rattle.cove_model.specs.Owners.{without, converted, fenced, answered, reclaimed, change}
 use Rattle.cove_model.specs.States.{State, harts_below}
-use Rattle.cove_model.specs.Refusals.{Check, first_failing, Count, Aligned, Inside, AllHost, AllFree, NoneShared, AllAnswered}
+use Rattle.cove_model.specs.Refusals.{Check, first_failing, plain, Count, Aligned, Inside, AllHost, AllFree, NoneShared, AllAnswered}
 
 -- an accepted call: the state afterwards, and the value beside the success
 pub record Outcome : Type 0 where
@@ -71,23 +68,21 @@ is_built call = is_some (rule call)
 abbrev pub not_supported : Reply
 not_supported = record { status = NotSupported; value = 0 }
 
--- the refusal by this rule; a call without one is not supported
-abbrev pub refusal_by : Option Rule → State → (hart : ℕ) → Option Reply
-refusal_by None S h = Some not_supported
-refusal_by (Some its) S h = first_failing (its.checks S h)
+-- the rule of a call that is not built: it is refused in every state
+abbrev pub unbuilt : Rule
+unbuilt = record { checks = λ S h. plain true NotSupported ∷ []; outcome = λ S h. plainly S }
+
+-- the rule by which a call is answered
+abbrev pub rule_of : HostCall → Rule
+rule_of call = unwrap_or (rule call) unbuilt
 
 -- the refusal of a call by a hart, if it is refused
 abbrev pub refusal : State → (hart : ℕ) → HostCall → Option Reply
-refusal S h call = refusal_by (rule call) S h
-
--- the outcome by this rule; a call without one does nothing
-abbrev pub outcome_by : Option Rule → State → (hart : ℕ) → Outcome
-outcome_by None S h = plainly S
-outcome_by (Some its) S h = its.outcome S h
+refusal S h call = first_failing ((rule_of call).checks S h)
 
 -- the outcome of an accepted call of a hart
 abbrev pub outcome : State → (hart : ℕ) → HostCall → Outcome
-outcome S h call = outcome_by (rule call) S h
+outcome S h call = (rule_of call).outcome S h
 
 -- the state after an accepted call
 abbrev pub effect : State → (hart : ℕ) → HostCall → State
@@ -97,19 +92,14 @@ effect S h call = (outcome S h call).state
 abbrev pub value_of : State → (hart : ℕ) → HostCall → ℕ
 value_of S h call = (outcome S h call).value
 
--- the answer, where this is the call's refusal or there is none
-abbrev pub answer_by : Option Reply → (value : ℕ) → Reply
-answer_by None value = record { status = Success; value = value }
-answer_by (Some reply) value = reply
-
 -- the state afterwards: a refused call changes nothing
 abbrev pub state_by : Option Reply → (before accepted : State) → State
 state_by None before accepted = accepted
 state_by (Some reply) before accepted = before
 
--- what a call of a hart is answered
+-- what a call of a hart is answered: its refusal, or success with its value
 abbrev pub reply_to : State → (hart : ℕ) → HostCall → Reply
-reply_to S h call = answer_by (refusal S h call) (value_of S h call)
+reply_to S h call = unwrap_or (refusal S h call) (record { status = Success; value = value_of S h call })
 
 -- the state after a call of a hart, but for the ended line
 abbrev pub state_after : State → (hart : ℕ) → HostCall → State

@@ -1,14 +1,7 @@
 -- The history that a script plays by turns.
 use Rattle.std.specs.Prelude.{◌≡◌, ℕ, zero, suc, ◌+◌, ◌*◌, ◌<◌, ◌≤◌, ◌⊎◌, ◌==◌, Bool, true, false, nat_lt, if◌then◌else◌, List, [], ◌∷◌, ◌++◌, length, fold, None}
 use Rattle.cove_base.specs.HartLines.{next_line}
-use Rattle.cove_base.specs.Scripts.{ScriptValue}
-use Rattle.cove_base.specs.declared.events.Entry.{Entry}
-use Rattle.cove_base.specs.declared.events.Event.{Event}
-use Rattle.cove_base.specs.declared.events.Event.TheVariants as events
-use Rattle.cove_base.specs.declared.events.How.{How}
-use Rattle.cove_base.specs.declared.events.How.TheVariants.{Hit, Walk}
-use Rattle.cove_base.specs.declared.scripts.Line.{Line}
-use Rattle.cove_base.specs.declared.scripts.Line.TheVariants as lines
+use Rattle.cove_model.specs.Types.{ScriptValue, Entry, Event, How, Hit, Walk, Line}
 use Rattle.cove_model.specs.Owners.{has, is_host, page_at}
 use Rattle.cove_model.specs.States.{State, harts_below, ended_by, page_of, word_at}
 use Rattle.cove_model.specs.Effects.{reply_to}
@@ -65,13 +58,13 @@ choice false Missing false = Faults
 -- a turn at a load, and at a store
 abbrev pub load_turn : Play → State → (hart addr : ℕ) → Choice → Play
 load_turn play S h addr Walks = walked play h (is_host (page_at S.pages (page_of addr)))
-load_turn play S h addr (Succeeds how) = entered play h (events.Load addr how (word_at S addr))
-load_turn play S h addr Faults = entered play h (events.LoadFault addr)
+load_turn play S h addr (Succeeds how) = entered play h (Event.Load addr how (word_at S addr))
+load_turn play S h addr Faults = entered play h (Event.LoadFault addr)
 
 abbrev pub store_turn : Play → State → (hart addr value : ℕ) → Choice → Play
 store_turn play S h addr value Walks = walked play h (is_host (page_at S.pages (page_of addr)))
-store_turn play S h addr value (Succeeds how) = entered play h (events.Store addr value how)
-store_turn play S h addr value Faults = entered play h (events.StoreFault addr value)
+store_turn play S h addr value (Succeeds how) = entered play h (Event.Store addr value how)
+store_turn play S h addr value Faults = entered play h (Event.StoreFault addr value)
 
 -- the choice of a hart at an address
 abbrev pub choice_at : ScriptValue → Play → State → (hart addr : ℕ) → Choice
@@ -80,9 +73,9 @@ choice_at script play S h addr =
 
 -- a turn at a line
 abbrev pub line_turn : ScriptValue → Play → State → (hart : ℕ) → Line → Play
-line_turn script play S h (lines.Call call) = entered play h (events.Call call (reply_to S h call))
-line_turn script play S h (lines.Load addr) = load_turn play S h addr (choice_at script play S h addr)
-line_turn script play S h (lines.Store addr value) = store_turn play S h addr value (choice_at script play S h addr)
+line_turn script play S h (Line.Call call) = entered play h (Event.Call call (reply_to S h call))
+line_turn script play S h (Line.Load addr) = load_turn play S h addr (choice_at script play S h addr)
+line_turn script play S h (Line.Store addr value) = store_turn play S h addr value (choice_at script play S h addr)
 
 -- a turn at an offer
 abbrev pub offer_turn : ScriptValue → Play → State → (hart : ℕ) → Offer → Play

@@ -2,9 +2,7 @@
 use Rattle.std.specs.Prelude.{ℕ, ◌+◌, ◌/◌, Bool, not, ◌&&◌, nat_le, nat_lt, if◌then◌else◌, List, [], ◌∷◌, length, slice_index, Option, Some, None}
 use Rattle.std.specs.List.{list_any}
 use Rattle.cove_base.specs.Ranges.{is_bad_count, is_unaligned, is_outside}
-use Rattle.cove_base.specs.declared.statuses.Reply.{Reply}
-use Rattle.cove_base.specs.declared.statuses.Status.{Status}
-use Rattle.cove_base.specs.declared.statuses.Status.TheVariants.{InvalidParam, Denied, InvalidAddress, AlreadyStarted}
+use Rattle.cove_model.specs.Types.{Reply, Status, InvalidParam, Denied, InvalidAddress, AlreadyStarted}
 use Rattle.cove_model.specs.Owners.{is_host, is_free, every}
 use Rattle.cove_model.specs.States.{State, shared_pages}
 

@@ -3,26 +3,24 @@ use Rattle.std.specs.Prelude.{ℕ, List, [], ◌∷◌, ◌++◌, length, flat_m
 use Rattle.cove_base.specs.CallWords.{call_text}
 use Rattle.cove_base.specs.EventWords.{spaced, how_text, word_text, reply_text, act_text, exit_text}
 use Rattle.cove_base.specs.Numbers.{natural_text, number_text, hex_text}
-use Rattle.cove_base.specs.declared.events.Entry.{Entry}
-use Rattle.cove_base.specs.declared.events.Event.{Event}
-use Rattle.cove_base.specs.declared.events.Event.TheVariants as events
+use Rattle.cove_model.specs.Types.{Entry, Event}
 
 -- what an event prints after its hart
 abbrev pub event_text : Event → List ℕ
-event_text (events.Call call reply) = call_text call ++ spaced (reply_text reply)
-event_text (events.Load addr how value) =
+event_text (Event.Call call reply) = call_text call ++ spaced (reply_text reply)
+event_text (Event.Load addr how value) =
     codes "ld" ++ spaced (number_text addr) ++ spaced (how_text how) ++ spaced (word_text value)
-event_text (events.LoadFault addr) = codes "ld" ++ spaced (number_text addr) ++ spaced (codes "walk fault")
-event_text (events.Store addr value how) =
+event_text (Event.LoadFault addr) = codes "ld" ++ spaced (number_text addr) ++ spaced (codes "walk fault")
+event_text (Event.Store addr value how) =
     codes "sd" ++ spaced (number_text addr) ++ spaced (number_text value) ++ spaced (how_text how) ++ spaced (codes "ok")
-event_text (events.StoreFault addr value) =
+event_text (Event.StoreFault addr value) =
     codes "sd" ++ spaced (number_text addr) ++ spaced (number_text value) ++ spaced (codes "walk fault")
-event_text (events.Fetch how) = codes "fetch" ++ spaced (how_text how)
-event_text events.Exec = codes "exec"
-event_text (events.Access how) = codes "exec" ++ spaced (how_text how)
-event_text (events.Guest act reply) = codes "guest" ++ spaced (act_text act) ++ spaced (reply_text reply)
-event_text (events.Evidence quote) = codes "guest evidence = 0 0x168" ++ spaced (hex_text quote)
-event_text (events.Exit exit) = codes "exit" ++ spaced (exit_text exit)
+event_text (Event.Fetch how) = codes "fetch" ++ spaced (how_text how)
+event_text Event.Exec = codes "exec"
+event_text (Event.Access how) = codes "exec" ++ spaced (how_text how)
+event_text (Event.Guest act reply) = codes "guest" ++ spaced (act_text act) ++ spaced (reply_text reply)
+event_text (Event.Evidence quote) = codes "guest evidence = 0 0x168" ++ spaced (hex_text quote)
+event_text (Event.Exit exit) = codes "exit" ++ spaced (exit_text exit)
 
 -- the line of an entry, without its line feed
 abbrev pub entry_line : Entry → List ℕ

@@ -1,8 +1,7 @@
 -- What the monitor knows, and how it begins.
 use Rattle.std.specs.Prelude.{ℕ, ◌+◌, ◌-◌, ◌*◌, ◌/◌, ◌%◌, nat_lt, if◌then◌else◌, List, [], ◌∷◌, map, fold, replicate, slice_index, slice_index_or}
 use Rattle.std.specs.List.{range_with_len}
-use Rattle.cove_base.specs.declared.scripts.Fill.{Fill}
-use Rattle.cove_base.specs.Scripts.{ScriptValue}
+use Rattle.cove_model.specs.Types.{Fill, ScriptValue}
 use Rattle.cove_model.specs.Owners.{Owner, Host, page_at, words_of}
 
 -- the state of the one-thread monitor; the first three fields never change
