@@ -16,7 +16,7 @@ use Rattle.cove_model.specs.Effects.{reply_to}
 use Rattle.cove_model.specs.Histories.{Legal, after}
 use Rattle.cove_model.specs.Offers.{Behind, Next, Nothing, Offer, offer}
 use Rattle.cove_model.specs.Owners.{has, is_host, page_at}
-use Rattle.cove_model.specs.Played.{Choice, Faults, Found, Missing, Note, Play, Succeeds, Unwalked, Walks, choice, choice_at, enough, entered, entry_by, line_turn, load_turn, noted, offer_turn, played, played_out, round, rounds, store_turn, turn, unplayed, walked}
+use Rattle.cove_model.specs.Played.{Choice, Faults, Found, Missing, Note, Play, Succeeds, Unwalked, Walks, access_turn, choice, choice_at, enough, entered, entry_by, line_turn, noted, offer_turn, played, played_out, round, rounds, turn, unplayed, walked}
 use Rattle.cove_model.specs.States.{State, ended_by, harts_below, page_of, word_at}
 use Rattle.cove_model.specs.Steps.{Allows, MaySucceed}
 use Rattle.cove_model.specs.Tlbs.{tlb}
@@ -146,7 +146,7 @@ module _ (script : ScriptValue) (limits : Limits script) (play : Play) (fitting 
       let was : WasHost script play.history h (page_of addr) = ⊎_elim (λ found. fitting.notes_fit h found d next (page_of addr) asks) (λ host. was_now script play.history h (page_of addr) host) facts.1 in
       (held_since script play.history h (page_of addr) (line_on_board script h (ended_by (after script play.history) h) d limits next) was, (facts.0, was))
 
-  fitting_load : (addr : ℕ) → offer script (after script play.history) h ≡ Next (lines.Load addr) → (c : Choice) → ChoiceFacts c (Holds addr) (play.notes h) (IsHostAt addr) → Fitting script (load_turn play (after script play.history) h addr c)
+  fitting_load : (addr : ℕ) → offer script (after script play.history) h ≡ Next (lines.Load addr) → (c : Choice) → ChoiceFacts c (Holds addr) (play.notes h) (IsHostAt addr) → Fitting script (access_turn play (after script play.history) h addr (λ how. events.Load addr how (word_at (after script play.history) addr)) (events.LoadFault addr) c)
   fitting_load addr o Walks facts =
       let d = due script (after script play.history) h (lines.Load addr) o in
       fitting_walked script play h addr d.next fitting d.found (ap asks_page d.is)
@@ -156,7 +156,7 @@ module _ (script : ScriptValue) (limits : Limits script) (play : Play) (fitting 
       fitting_entered script play h (events.Load addr how (word_at (after script play.history) addr)) fitting (o, (r.0, refl)) r.1
   fitting_load addr o Faults facts = fitting_entered script play h (events.LoadFault addr) fitting (o, facts.1) facts.0
 
-  fitting_store : (addr value : ℕ) → offer script (after script play.history) h ≡ Next (lines.Store addr value) → (c : Choice) → ChoiceFacts c (Holds addr) (play.notes h) (IsHostAt addr) → Fitting script (store_turn play (after script play.history) h addr value c)
+  fitting_store : (addr value : ℕ) → offer script (after script play.history) h ≡ Next (lines.Store addr value) → (c : Choice) → ChoiceFacts c (Holds addr) (play.notes h) (IsHostAt addr) → Fitting script (access_turn play (after script play.history) h addr (λ how. events.Store addr value how) (events.StoreFault addr value) c)
   fitting_store addr value o Walks facts =
       let d = due script (after script play.history) h (lines.Store addr value) o in
       fitting_walked script play h addr d.next fitting d.found (ap asks_page d.is)

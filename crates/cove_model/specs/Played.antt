@@ -55,27 +55,26 @@ choice false Found host = Succeeds Walk
 choice false Missing true = Succeeds Walk
 choice false Missing false = Faults
 
--- a turn at a load, and at a store
-abbrev pub load_turn : Play → State → (hart addr : ℕ) → Choice → Play
-load_turn play S h addr Walks = walked play h (is_host (page_at S.pages (page_of addr)))
-load_turn play S h addr (Succeeds how) = entered play h (Event.Load addr how (word_at S addr))
-load_turn play S h addr Faults = entered play h (Event.LoadFault addr)
-
-abbrev pub store_turn : Play → State → (hart addr value : ℕ) → Choice → Play
-store_turn play S h addr value Walks = walked play h (is_host (page_at S.pages (page_of addr)))
-store_turn play S h addr value (Succeeds how) = entered play h (Event.Store addr value how)
-store_turn play S h addr value Faults = entered play h (Event.StoreFault addr value)
-
 -- the choice of a hart at an address
 abbrev pub choice_at : ScriptValue → Play → State → (hart addr : ℕ) → Choice
 choice_at script play S h addr =
     choice (has (page_of addr) (tlb script play.history h).pages) (play.notes h) (is_host (page_at S.pages (page_of addr)))
 
+-- a turn at an access, whose success and fault are these events
+abbrev pub access_turn : Play → State → (hart addr : ℕ) → (success : How → Event) (fault : Event) → Choice → Play
+access_turn play S h addr success fault Walks = walked play h (is_host (page_at S.pages (page_of addr)))
+access_turn play S h addr success fault (Succeeds how) = entered play h (success how)
+access_turn play S h addr success fault Faults = entered play h fault
+
 -- a turn at a line
 abbrev pub line_turn : ScriptValue → Play → State → (hart : ℕ) → Line → Play
 line_turn script play S h (Line.Call call) = entered play h (Event.Call call (reply_to S h call))
-line_turn script play S h (Line.Load addr) = load_turn play S h addr (choice_at script play S h addr)
-line_turn script play S h (Line.Store addr value) = store_turn play S h addr value (choice_at script play S h addr)
+line_turn script play S h (Line.Load addr) =
+    access_turn play S h addr (λ how. Event.Load addr how (word_at S addr)) (Event.LoadFault addr)
+    (choice_at script play S h addr)
+line_turn script play S h (Line.Store addr value) =
+    access_turn play S h addr (λ how. Event.Store addr value how) (Event.StoreFault addr value)
+    (choice_at script play S h addr)
 
 -- a turn at an offer
 abbrev pub offer_turn : ScriptValue → Play → State → (hart : ℕ) → Offer → Play
