@@ -150,17 +150,17 @@ module _ (script : ScriptValue) (within : IsTrue (is_within_limits script)) (H :
       ap (offer_turn script play S held.hart) o ∙ ap (λ r. entered play held.hart (events.Call call r)) (sym answers)
   entered_turn (events.Load addr how value) o answers reached told =
       ap (offer_turn script play S held.hart) o
-      ∙ ap (access_turn play S held.hart addr (λ how. events.Load addr how (word_at S addr)) (events.LoadFault addr)) (access_choice addr (lines.Load addr) refl o (Some how) reached told)
+      ∙ ap (access_turn play held.hart (λ how. events.Load addr how (word_at S addr)) (events.LoadFault addr)) (access_choice addr (lines.Load addr) refl o (Some how) reached told)
       ∙ ap (λ v. entered play held.hart (events.Load addr how v)) (sym answers.1)
   entered_turn (events.LoadFault addr) o answers reached told =
       ap (offer_turn script play S held.hart) o
-      ∙ ap (access_turn play S held.hart addr (λ how. events.Load addr how (word_at S addr)) (events.LoadFault addr)) (access_choice addr (lines.Load addr) refl o None reached (told, answers))
+      ∙ ap (access_turn play held.hart (λ how. events.Load addr how (word_at S addr)) (events.LoadFault addr)) (access_choice addr (lines.Load addr) refl o None reached (told, answers))
   entered_turn (events.Store addr value how) o answers reached told =
       ap (offer_turn script play S held.hart) o
-      ∙ ap (access_turn play S held.hart addr (λ how. events.Store addr value how) (events.StoreFault addr value)) (access_choice addr (lines.Store addr value) refl o (Some how) reached told)
+      ∙ ap (access_turn play held.hart (λ how. events.Store addr value how) (events.StoreFault addr value)) (access_choice addr (lines.Store addr value) refl o (Some how) reached told)
   entered_turn (events.StoreFault addr value) o answers reached told =
       ap (offer_turn script play S held.hart) o
-      ∙ ap (access_turn play S held.hart addr (λ how. events.Store addr value how) (events.StoreFault addr value)) (access_choice addr (lines.Store addr value) refl o None reached (told, answers))
+      ∙ ap (access_turn play held.hart (λ how. events.Store addr value how) (events.StoreFault addr value)) (access_choice addr (lines.Store addr value) refl o None reached (told, answers))
   entered_turn (events.Fetch how) o answers reached told = absurd o
   entered_turn events.Exec o answers reached told = absurd o
   entered_turn (events.Access how) o answers reached told = absurd o
@@ -221,16 +221,14 @@ walk_line : (script : ScriptValue) (play : Play) (S : State) (h p : ℕ) (line :
 walk_line script play S h p (lines.Call call) asks lacks none = cc
 walk_line script play S h p (lines.Load addr) asks lacks none =
     let same : page_of addr ≡ p = same_Some (page_of addr) p asks in
-    ap (access_turn play S h addr (λ how. events.Load addr how (word_at S addr)) (events.LoadFault addr))
+    ap (access_turn play h (λ how. events.Load addr how (word_at S addr)) (events.LoadFault addr))
     (ap (λ q. choice (has q (tlb script play.history h).pages) (play.notes h) (is_host (page_at S.pages q))) same
     ∙ ap (λ b. choice b (play.notes h) (is_host (page_at S.pages p))) lacks ∙ ap (λ n. choice false n (is_host (page_at S.pages p))) none)
-    ∙ ap (λ q. walked play h (is_host (page_at S.pages q))) same
 walk_line script play S h p (lines.Store addr value) asks lacks none =
     let same : page_of addr ≡ p = same_Some (page_of addr) p asks in
-    ap (access_turn play S h addr (λ how. events.Store addr value how) (events.StoreFault addr value))
+    ap (access_turn play h (λ how. events.Store addr value how) (events.StoreFault addr value))
     (ap (λ q. choice (has q (tlb script play.history h).pages) (play.notes h) (is_host (page_at S.pages q))) same
     ∙ ap (λ b. choice b (play.notes h) (is_host (page_at S.pages p))) lacks ∙ ap (λ n. choice false n (is_host (page_at S.pages p))) none)
-    ∙ ap (λ q. walked play h (is_host (page_at S.pages q))) same
 
 pub walk_turned : (script : ScriptValue) → IsTrue (is_within_limits script) → (words : List ℕ) (mon : Mon) → IsKept script words mon → (held left : HartValue) → Fits script mon.history held → (phase : ℕ) → IsWalked script words phase held left → (l : ScriptLine) → next_line script held.hart held.ended ≡ Some l → length mon.history < ENTRY_LIMIT → first_behind script (after script mon.history) l.phase ≡ None → IsTurned script mon.history mon.history held left true
 walk_turned script within words mon kept held left fits phase is_walked l next room none_behind = record {

@@ -136,15 +136,15 @@ walked_work script play h b lt none =
     let there = weight_found b in
     omega arith
 
-access_work : (script : ScriptValue) (play : Play) (S : State) (h addr : ℕ) (success : How → Event) (fault : Event) (c : Choice) (holds host : Bool) → h < script.harts → ChoiceFacts c holds (play.notes h) host → work script play < work script (access_turn play S h addr success fault c)
-access_work script play S h addr success fault Walks holds host lt facts = walked_work script play h (is_host (page_at S.pages (page_of addr))) lt facts.1
-access_work script play S h addr success fault (Succeeds how) holds host lt facts = entered_work script play h (success how) lt
-access_work script play S h addr success fault Faults holds host lt facts = entered_work script play h fault lt
+access_work : (script : ScriptValue) (play : Play) (h : ℕ) (success : How → Event) (fault : Event) (c : Choice) (holds host : Bool) → h < script.harts → ChoiceFacts c holds (play.notes h) host → work script play < work script (access_turn play h success fault c)
+access_work script play h success fault (Walks found) holds host lt facts = walked_work script play h found lt facts.1
+access_work script play h success fault (Succeeds how) holds host lt facts = entered_work script play h (success how) lt
+access_work script play h success fault Faults holds host lt facts = entered_work script play h fault lt
 
 line_work : (script : ScriptValue) (play : Play) (S : State) (h : ℕ) (line : Line) → h < script.harts → work script play < work script (line_turn script play S h line)
 line_work script play S h (lines.Call call) lt = entered_work script play h (events.Call call (reply_to S h call)) lt
-line_work script play S h (lines.Load addr) lt = access_work script play S h addr (λ how. events.Load addr how (word_at S addr)) (events.LoadFault addr) (choice_at script play S h addr) (has (page_of addr) (tlb script play.history h).pages) (is_host (page_at S.pages (page_of addr))) lt (choice_facts (has (page_of addr) (tlb script play.history h).pages) (play.notes h) (is_host (page_at S.pages (page_of addr))))
-line_work script play S h (lines.Store addr value) lt = access_work script play S h addr (λ how. events.Store addr value how) (events.StoreFault addr value) (choice_at script play S h addr) (has (page_of addr) (tlb script play.history h).pages) (is_host (page_at S.pages (page_of addr))) lt (choice_facts (has (page_of addr) (tlb script play.history h).pages) (play.notes h) (is_host (page_at S.pages (page_of addr))))
+line_work script play S h (lines.Load addr) lt = access_work script play h (λ how. events.Load addr how (word_at S addr)) (events.LoadFault addr) (choice_at script play S h addr) (has (page_of addr) (tlb script play.history h).pages) (is_host (page_at S.pages (page_of addr))) lt (choice_facts (has (page_of addr) (tlb script play.history h).pages) (play.notes h) (is_host (page_at S.pages (page_of addr))))
+line_work script play S h (lines.Store addr value) lt = access_work script play h (λ how. events.Store addr value how) (events.StoreFault addr value) (choice_at script play S h addr) (has (page_of addr) (tlb script play.history h).pages) (is_host (page_at S.pages (page_of addr))) lt (choice_facts (has (page_of addr) (tlb script play.history h).pages) (play.notes h) (is_host (page_at S.pages (page_of addr))))
 
 offer_work : (script : ScriptValue) (play : Play) (S : State) (h : ℕ) (o : Offer) → h < script.harts → (offer_turn script play S h o ≡ play) ⊎ (work script play < work script (offer_turn script play S h o))
 offer_work script play S h Nothing lt = inl refl
@@ -252,15 +252,15 @@ turn_size limit script play h le = cond_both (nat_lt (length play.history) limit
     one : (event : Event) → length play.history < limit → length (entered play h event).history ≤ limit
     one event lt = let size = length_push play.history (entry_by h event) in omega arith
 
-    access_size : (addr : ℕ) (success : How → Event) (fault : Event) (c : Choice) → length play.history < limit → length (access_turn play (after script play.history) h addr success fault c).history ≤ limit
-    access_size addr success fault Walks lt = le
-    access_size addr success fault (Succeeds how) lt = one (success how) lt
-    access_size addr success fault Faults lt = one fault lt
+    access_size : (success : How → Event) (fault : Event) (c : Choice) → length play.history < limit → length (access_turn play h success fault c).history ≤ limit
+    access_size success fault (Walks found) lt = le
+    access_size success fault (Succeeds how) lt = one (success how) lt
+    access_size success fault Faults lt = one fault lt
 
     line_size : (line : Line) → length play.history < limit → length (line_turn script play (after script play.history) h line).history ≤ limit
     line_size (lines.Call call) lt = one (events.Call call (reply_to (after script play.history) h call)) lt
-    line_size (lines.Load addr) lt = access_size addr (λ how. events.Load addr how (word_at (after script play.history) addr)) (events.LoadFault addr) (choice_at script play (after script play.history) h addr) lt
-    line_size (lines.Store addr value) lt = access_size addr (λ how. events.Store addr value how) (events.StoreFault addr value) (choice_at script play (after script play.history) h addr) lt
+    line_size (lines.Load addr) lt = access_size (λ how. events.Load addr how (word_at (after script play.history) addr)) (events.LoadFault addr) (choice_at script play (after script play.history) h addr) lt
+    line_size (lines.Store addr value) lt = access_size (λ how. events.Store addr value how) (events.StoreFault addr value) (choice_at script play (after script play.history) h addr) lt
 
     offer_size : (o : Offer) → length play.history < limit → length (offer_turn script play (after script play.history) h o).history ≤ limit
     offer_size Nothing lt = le

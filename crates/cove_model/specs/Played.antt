@@ -41,16 +41,16 @@ abbrev pub entered : Play → (hart : ℕ) → Event → Play
 entered play hart event =
     record { history = play.history ++ entry_by hart event ∷ []; notes = noted hart Unwalked play.notes }
 
--- what a hart makes of an access: a walk, a success or a fault
+-- what a hart makes of an access: a walk, which finds the page or not, a success or a fault
 pub data Choice : Type 0 where
-  Walks : Choice
+  Walks : (found : Bool) → Choice
   Succeeds : (how : How) → Choice
   Faults : Choice
 
 -- the choice, where the hart holds the page or not, has this note, and the page is the host's or not
 abbrev pub choice : (holds : Bool) → Note → (is_host : Bool) → Choice
 choice true note host = Succeeds Hit
-choice false Unwalked host = Walks
+choice false Unwalked host = Walks host
 choice false Found host = Succeeds Walk
 choice false Missing true = Succeeds Walk
 choice false Missing false = Faults
@@ -61,20 +61,18 @@ choice_at script play S h addr =
     choice (has (page_of addr) (tlb script play.history h).pages) (play.notes h) (is_host (page_at S.pages (page_of addr)))
 
 -- a turn at an access, whose success and fault are these events
-abbrev pub access_turn : Play → State → (hart addr : ℕ) → (success : How → Event) (fault : Event) → Choice → Play
-access_turn play S h addr success fault Walks = walked play h (is_host (page_at S.pages (page_of addr)))
-access_turn play S h addr success fault (Succeeds how) = entered play h (success how)
-access_turn play S h addr success fault Faults = entered play h fault
+abbrev pub access_turn : Play → (hart : ℕ) → (success : How → Event) (fault : Event) → Choice → Play
+access_turn play h success fault (Walks found) = walked play h found
+access_turn play h success fault (Succeeds how) = entered play h (success how)
+access_turn play h success fault Faults = entered play h fault
 
 -- a turn at a line
 abbrev pub line_turn : ScriptValue → Play → State → (hart : ℕ) → Line → Play
 line_turn script play S h (Line.Call call) = entered play h (Event.Call call (reply_to S h call))
 line_turn script play S h (Line.Load addr) =
-    access_turn play S h addr (λ how. Event.Load addr how (word_at S addr)) (Event.LoadFault addr)
-    (choice_at script play S h addr)
+    access_turn play h (λ how. Event.Load addr how (word_at S addr)) (Event.LoadFault addr) (choice_at script play S h addr)
 line_turn script play S h (Line.Store addr value) =
-    access_turn play S h addr (λ how. Event.Store addr value how) (Event.StoreFault addr value)
-    (choice_at script play S h addr)
+    access_turn play h (λ how. Event.Store addr value how) (Event.StoreFault addr value) (choice_at script play S h addr)
 
 -- a turn at an offer
 abbrev pub offer_turn : ScriptValue → Play → State → (hart : ℕ) → Offer → Play
