@@ -64,10 +64,6 @@ rule (Inject t v id) = None
 abbrev pub is_built : HostCall → Bool
 is_built call = is_some (rule call)
 
--- the answer to a call that is not built
-abbrev pub not_supported : Reply
-not_supported = record { status = NotSupported; value = 0 }
-
 -- the rule of a call that is not built: it is refused in every state
 abbrev pub unbuilt : Rule
 unbuilt = record { checks = λ S h. plain true NotSupported ∷ []; outcome = λ S h. plainly S }

@@ -20,7 +20,7 @@ ghost use Rattle.cove_base.specs.declared.statuses.Status.TheVariants.{InvalidAd
 ghost use Rattle.cove_model.specs.Cached.{IsCached, IsQuiet, IsQuietAt, IsReached, WasHost};
 ghost use Rattle.cove_model.specs.Examples.{board, during_a_fence, during_a_fence_history, faulted, fresh, load, refused, stale, stale_history, text, there_and_back, there_and_back_history};
 ghost use Rattle.cove_model.specs.Fits.{Fits, IsSought, after_own};
-ghost use Rattle.cove_model.specs.Effects.{is_built, not_supported, refusal, state_after};
+ghost use Rattle.cove_model.specs.Effects.{is_built, refusal, state_after};
 ghost use Rattle.cove_model.specs.Follows.{Begins, Follows, told};
 ghost use Rattle.cove_model.specs.Histories.{Legal, after, after_entry, own};
 ghost use Rattle.cove_model.specs.Offers.{Next, NoneEarlier, first_behind, offer};
@@ -91,7 +91,7 @@ pub fn offers_are_allowed()
 /// A call that is not built is not supported, in every state.
 pub fn unbuilt_calls_are_refused()
     ensures { (S : State) (hart : ℕ) (call : HostCall)
-        → is_built call ≡ false → refusal S hart call ≡ Some not_supported }
+        → is_built call ≡ false → refusal S hart call ≡ refused NotSupported }
 {}
 
 /// After every history, legal or not, the pages are sound and the board is the script's.
