@@ -49,7 +49,7 @@ use Rattle.cove_model.specs.Histories.{EachEntry, Legal, after}
 use Rattle.cove_model.specs.Offers.{Next, first_behind, offer, offer_of, unless_behind}
 use Rattle.cove_model.specs.Owners.{has, is_host, page_at}
 use Rattle.cove_model.specs.Played.{Choice, Faults, Found, Missing, Note, Play, Succeeds, Unwalked, access_turn, choice, choice_at, entered, entry_by, line_turn, noted, offer_turn, turn, walked}
-use Rattle.cove_model.specs.States.{State, ended_by, page_of}
+use Rattle.cove_model.specs.States.{State, ended_by, page_of, word_at}
 use Rattle.cove_model.specs.Steps.{Answers, IsDue, asked}
 use Rattle.cove_model.specs.Tlbs.{tlb}
 use Rattle.cove_model.specs.WordLaws.{Stand}

@@ -2,8 +2,8 @@
 use Rattle.std.specs.Prelude.{ℕ, ◌==◌, ◌||◌, Bool, if◌then◌else◌, List, [], ◌∷◌, ◌++◌}
 use Rattle.std.specs.List.{list_any}
 use Rattle.cove_base.specs.Rings.{keep_last, ring_room}
-use Rattle.cove_model.specs.Types.{ScriptValue, GuestAct, HostCall, Convert, GlobalFence, LocalFence, Reclaim, Create, Region, Tables, Measured, Vcpu, Finalize, Zero, Shared, Run, Invalidate, TvmFence, Validate, Remove, Destroy, Kick, Info, Bind, Unbind, Unbound, Inject, Entry, Event, How, Hit, Walk}
 use Rattle.cove_base.specs.Statuses.{is_success}
+use Rattle.cove_model.specs.Types.{ScriptValue, GuestAct, HostCall, Convert, GlobalFence, LocalFence, Reclaim, Create, Region, Tables, Measured, Vcpu, Finalize, Zero, Shared, Run, Invalidate, TvmFence, Validate, Remove, Destroy, Kick, Info, Bind, Unbind, Unbound, Inject, Entry, Event, How, Hit, Walk}
 use Rattle.cove_model.specs.Histories.{after_entry}
 use Rattle.cove_model.specs.Owners.{has}
 use Rattle.cove_model.specs.States.{State, opening, page_of}
