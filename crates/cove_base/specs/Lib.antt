@@ -1,4 +1,5 @@
 pub mod CallWords
+pub mod EventWords
 pub mod Guards
 pub mod HartLines
 pub mod HartPlaces

@@ -1,4 +1,4 @@
-use Rattle.std.specs.Prelude.{◌≡◌, ℕ, ◌+◌, ◌*◌, ◌^◌, ◌<◌, ◌⊎◌}
+use Rattle.std.specs.Prelude.{◌≡◌, ℕ, ◌+◌, ◌*◌, ◌^◌}
 
 -- a leaf of a page of the TVM's own: V, R, W, X, U, A and D
 abbrev pub private_leaf : (page : ℕ) → ℕ

@@ -1,16 +1,16 @@
 -- What refused and accepted calls leave.
-use Rattle.std.proofs.Common.{◌≡◌, ℕ, ◌+◌, ◌≤◌, List, [], get_or, Option, Some, None, refl, sym, ap, subst, ◌∙◌, arith}
+use Rattle.std.proofs.Common.{◌≡◌, ℕ, ◌+◌, ◌≤◌, List, [], get_or, Option, Some, None, unwrap_or, refl, sym, ap, subst, ◌∙◌, arith}
 use Rattle.cove_base.proofs.StoreLemmas.{length-stored, AllAllowed-weaker}
 use Rattle.cove_base.specs.Guards.{Guard}
 use Rattle.cove_base.specs.Places.{count_word}
 use Rattle.cove_base.specs.Stores.{stored, AllAllowed}
 use Rattle.cove_base.specs.declared.calls.HostCall.{HostCall}
 use Rattle.cove_base.specs.declared.statuses.Reply.{Reply}
+use Rattle.cove_base.specs.declared.statuses.Status.TheVariants.{Success}
 use Rattle.cove_core.specs.Called.{Called, no_tables}
 use Rattle.cove_core.specs.Replies.{accepted}
-use Rattle.cove_model.specs.Effects.{answer_by, state_by, effect, value_of}
+use Rattle.cove_model.specs.Effects.{state_by, effect, value_of, refusal}
 use Rattle.cove_model.specs.LawfulStores.{IsLawful, AllowsLawful}
-use Rattle.cove_model.specs.Refusals.{refusal}
 use Rattle.cove_model.specs.States.{State}
 use Rattle.cove_model.specs.WordLaws.{Stand}
 use Rattle.cove_model.specs.WordsStand.{FramesStand, epoch_in}
@@ -20,8 +20,9 @@ pub refuses : (pages harts hart : ℕ) (call : HostCall) (words : List ℕ) (fra
 refuses pages harts hart call words frames reply each = record {
   serves = λ S stand memory.
       let is = each S stand in
+      let success : ℕ → Reply = λ v. record { status = Success; value = v } in
       let kept : state_by (refusal S hart call) S (effect S hart call) ≡ S = ap (λ (r : Option Reply). state_by r S (effect S hart call)) is in (
-        sym (ap (λ (r : Option Reply). answer_by r (value_of S hart call)) is),
+        sym (ap (λ (r : Option Reply). unwrap_or r (success (value_of S hart call))) is),
         subst (λ s. Stand pages harts words s) (sym kept) stand,
         subst (λ s. FramesStand frames s) (sym kept) memory,
       );
@@ -45,8 +46,9 @@ accepts pages harts hart call words new frames now ss is lawful epoch count each
     let made : Called pages harts hart call words (stored words ss) frames now accepted = record {
       serves = λ S stand memory.
           let right = each S stand memory in
+          let success : ℕ → Reply = λ v. record { status = Success; value = v } in
           let moved : state_by (refusal S hart call) S (effect S hart call) ≡ effect S hart call = ap (λ (r : Option Reply). state_by r S (effect S hart call)) right.none in (
-            sym (ap (λ (r : Option Reply). answer_by r (value_of S hart call)) right.none ∙ ap (λ v. answer_by None v) right.value),
+            sym (ap (λ (r : Option Reply). unwrap_or r (success (value_of S hart call))) right.none ∙ ap success right.value),
             subst (λ s. Stand pages harts (stored words ss) s) (sym moved) right.stands,
             subst (λ s. FramesStand now s) (sym moved) right.memory,
           );

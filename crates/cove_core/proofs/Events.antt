@@ -36,7 +36,8 @@ use Rattle.cove_model.specs.Histories.{after}
 use Rattle.cove_model.specs.Owners.{Owner, Host, Converting, Free, Given, change, may_use, page_at, stored, words_of}
 use Rattle.cove_model.specs.States.{State, page_of, place_of, word_at}
 use Rattle.cove_model.specs.Steps.{Answers, asked, done}
-use Rattle.cove_model.specs.Tlbs.{Tlb, after_call, is_success, renewed, tlb}
+use Rattle.cove_base.specs.Statuses.{is_success}
+use Rattle.cove_model.specs.Tlbs.{Tlb, after_call, renewed, tlb}
 use Rattle.cove_model.specs.WordLaws.{Stand}
 use Rattle.cove_model.specs.WordsStand.{FrameStands, FramesStand, PageStands, is_table}
 

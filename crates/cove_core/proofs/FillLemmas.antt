@@ -13,27 +13,14 @@ use Rattle.cove_base.specs.declared.scripts.Fill.{Fill}
 use Rattle.cove_core.specs.Bytes.{FramesShow, with_byte_at}
 use Rattle.cove_mem.specs.Frames.{frame, with_word, zeros}
 use Rattle.cove_model.proofs.Runs.{opening_length, opening_page, opening_size}
-use Rattle.cove_model.specs.States.{byte_after, from_bytes, opening, opening_byte, opening_words}
+use Rattle.cove_model.specs.States.{byte_after, opening, opening_byte, opening_words}
 use Rattle.cove_model.specs.WordsStand.{FrameStands, FramesStand}
 
 -- ---- eight bytes
 
--- eight bytes are a number's as the machine reads them
-pub eight_bytes : (bs : List ℕ) → length bs ≡ 8 → from_le_bytes w64 bs ≡ from_bytes bs
-eight_bytes [] l = absurd (omega arith)
-eight_bytes (a ∷ []) l = absurd (omega arith)
-eight_bytes (a ∷ b ∷ []) l = absurd (omega arith)
-eight_bytes (a ∷ b ∷ c ∷ []) l = absurd (omega arith)
-eight_bytes (a ∷ b ∷ c ∷ d ∷ []) l = absurd (omega arith)
-eight_bytes (a ∷ b ∷ c ∷ d ∷ e ∷ []) l = absurd (omega arith)
-eight_bytes (a ∷ b ∷ c ∷ d ∷ e ∷ f ∷ []) l = absurd (omega arith)
-eight_bytes (a ∷ b ∷ c ∷ d ∷ e ∷ f ∷ g ∷ []) l = absurd (omega arith)
-eight_bytes (a ∷ b ∷ c ∷ d ∷ e ∷ f ∷ g ∷ h ∷ []) l = omega arith
-eight_bytes (a ∷ b ∷ c ∷ d ∷ e ∷ f ∷ g ∷ h ∷ x ∷ bs) l = absurd (omega arith)
-
 -- the bytes of a number that eight small bytes make
-pub bytes_of : (bs : List ℕ) → length bs ≡ 8 → ((i : ℕ) → get_or bs i 0 < 256) → to_le_bytes w64 (from_bytes bs) ≡ bs
-bytes_of bs l small = le_bytes_8 bs (from_bytes bs) l small (sym (eight_bytes bs l))
+pub bytes_of : (bs : List ℕ) → length bs ≡ 8 → ((i : ℕ) → get_or bs i 0 < 256) → to_le_bytes w64 (from_le_bytes w64 bs) ≡ bs
+bytes_of bs l small = le_bytes_8 bs (from_le_bytes w64 bs) l small refl
 
 -- ---- bytes of a run of addresses
 
@@ -82,7 +69,7 @@ byte_small byte addr value small fits a = elim (cases_eq a addr) [
 -- the word of an address, with another byte at its place there
 pub show_byte :
     (frames : List (List ℕ)) (byte : ℕ → ℕ) (addr value : ℕ) → FramesShow frames byte → addr < 4096 * length frames → value < 256
-    → FramesShow (with_word frames (addr / 4096) (addr / 8 % 512) (from_bytes (set (to_le_bytes w64 (get_or (frame frames (addr / 4096)) (addr / 8 % 512) 0)) (addr % 8) value))) (with_byte_at byte addr value)
+    → FramesShow (with_word frames (addr / 4096) (addr / 8 % 512) (from_le_bytes w64 (set (to_le_bytes w64 (get_or (frame frames (addr / 4096)) (addr / 8 % 512) 0)) (addr % 8) value))) (with_byte_at byte addr value)
 show_byte frames byte addr value shows within fits =
     let p = addr / 4096 in
     let i = addr / 8 % 512 in
@@ -92,13 +79,13 @@ show_byte frames byte addr value shows within fits =
     let here : addr ≡ 4096 * (addr / 4096) + 8 * (addr / 8 % 512) + addr % 8 = omega arith in
     let run = range_with_len (4096 * p + 8 * i) 8 in
     let old : List ℕ = map byte run in
-    let word : get_or (frame frames p) i 0 ≡ from_bytes old = shows.word p i on in_page in
+    let word : get_or (frame frames p) i 0 ≡ from_le_bytes w64 old = shows.word p i on in_page in
     let bytes : to_le_bytes w64 (get_or (frame frames p) i 0) ≡ old =
     ap (to_le_bytes w64) word ∙ bytes_of old (length-map-range_with_len byte (4096 * p + 8 * i) 8) (small_run byte (4096 * p + 8 * i) 8 shows.small) in
     let made : set (to_le_bytes w64 (get_or (frame frames p) i 0)) k value ≡ map (with_byte_at byte addr value) run =
     ap (λ bs. set bs k value) bytes
     ∙ set_run byte (with_byte_at byte addr value) (4096 * p + 8 * i) 8 k value (omega arith) (ap (with_byte_at byte addr value) (sym here) ∙ byte_here byte addr value) (λ c ne. byte_other byte addr value c (subst (λ m. c ≢ m) (sym here) ne)) in
-    let w = from_bytes (set (to_le_bytes w64 (get_or (frame frames p) i 0)) k value) in
+    let w = from_le_bytes w64 (set (to_le_bytes w64 (get_or (frame frames p) i 0)) k value) in
     let page : List ℕ = set (frame frames p) i w in
     let new : List (List ℕ) = set frames p page in
     let long : length new ≡ length frames = length-set frames p page in
@@ -121,19 +108,19 @@ show_byte frames byte addr value shows within fits =
               let start : 4096 * p + 8 * i ≡ 4096 * q + 8 * j = omega arith in
               ap (λ f. get_or f j 0) (same_page q same)
               ∙ get_or-set_at (frame frames p) i j w 0 at (omega (arith, shows.size p on))
-              ∙ ap from_bytes made
-              ∙ ap (λ a. from_bytes (map (with_byte_at byte addr value) (range_with_len a 8))) start
+              ∙ ap (from_le_bytes w64) made
+              ∙ ap (λ a. from_le_bytes w64 (map (with_byte_at byte addr value) (range_with_len a 8))) start
           | inr off ↦
               ap (λ f. get_or f j 0) (same_page q same)
               ∙ get_or-set_other (frame frames p) i j w 0 off
               ∙ ap (λ r. get_or (frame frames r) j 0) (sym same)
               ∙ shows.word q j (omega (arith, long)) small
-              ∙ ap from_bytes (other_run q j small (λ is. off))
+              ∙ ap (from_le_bytes w64) (other_run q j small (λ is. off))
         ]
         | inr ne ↦
             ap (λ f. get_or f j 0) (other_page q ne)
             ∙ shows.word q j (omega (arith, long)) small
-            ∙ ap from_bytes (other_run q j small (λ is. absurd (ne is)))
+            ∙ ap (from_le_bytes w64) (other_run q j small (λ is. absurd (ne is)))
       ];
     }
 
@@ -143,7 +130,7 @@ pub show_same : (frames : List (List ℕ)) (f g : ℕ → ℕ) → ((a : ℕ) �
 show_same frames f g same shows = record {
   small = λ a. subst (λ v. v < 256) (same a) (shows.small a);
   size = shows.size;
-  word = λ p i on small. shows.word p i on small ∙ ap from_bytes (same_run f g (4096 * p + 8 * i) 8 (λ c low high. same c));
+  word = λ p i on small. shows.word p i on small ∙ ap (from_le_bytes w64) (same_run f g (4096 * p + 8 * i) 8 (λ c low high. same c));
 }
 
 -- ---- a fill
@@ -241,9 +228,9 @@ show_zeros n =
       word = λ p i below small. ap (λ f. get_or f i 0) (get_or-replicate n p zeros [] (omega (arith, long))) ∙ get_or-replicate 512 i 0 0 small;
     }
 
-opening_word : (fills : List Fill) (p i : ℕ) → i < 512 → get_or (opening_words fills p) i 0 ≡ from_bytes (map (opening_byte fills) (range_with_len (4096 * p + 8 * i) 8))
+opening_word : (fills : List Fill) (p i : ℕ) → i < 512 → get_or (opening_words fills p) i 0 ≡ from_le_bytes w64 (map (opening_byte fills) (range_with_len (4096 * p + 8 * i) 8))
 unfolding opening_words
-opening_word fills p i small = get_or-map-range_with_len (λ j. from_bytes (map (opening_byte fills) (range_with_len (4096 * p + 8 * j) 8))) 0 512 i i 0 small (omega arith)
+opening_word fills p i small = get_or-map-range_with_len (λ j. from_le_bytes w64 (map (opening_byte fills) (range_with_len (4096 * p + 8 * j) 8))) 0 512 i i 0 small (omega arith)
 
 -- frames that show the bytes of the fills stand for the opening
 pub filled_stands : (script : ScriptValue) (frames : List (List ℕ)) → length frames ≡ script.pages → FramesShow frames (opening_byte script.fills) → FramesStand frames (opening script)

@@ -10,7 +10,7 @@ use Rattle.cove_core.specs.Plays.{AreReady, GoesOn, IsAt, IsSeated, IsTurn, IsTu
 use Rattle.cove_core.specs.declared.monitors.Mon.{Mon}
 use Rattle.cove_hart.specs.HartStates.{value_of}
 use Rattle.cove_hart.specs.declared.states.HartState.{HartState}
-use Rattle.cove_model.proofs.OneHart.{rounds_stay}
+use Rattle.cove_model.proofs.Playing.{rounds_stay}
 use Rattle.cove_model.specs.Played.{Play, Unwalked, enough, played, round, rounds, turn, unplayed}
 use Rattle.cove_model.specs.States.{harts_below}
 

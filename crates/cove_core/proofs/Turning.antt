@@ -39,8 +39,7 @@ use Rattle.cove_hart.specs.Needs.{access_need, line_need, next_need}
 use Rattle.cove_hart.specs.declared.needs.Need.TheVariants as needs
 use Rattle.cove_model.proofs.AtTheEnd.{each_last}
 use Rattle.cove_model.proofs.Beginning.{due, offered}
-use Rattle.cove_model.proofs.OneHart.{turn_full, turn_open}
-use Rattle.cove_model.proofs.Playing.{noted_other, noted_same}
+use Rattle.cove_model.proofs.Playing.{noted_other, noted_same, turn_full, turn_open}
 use Rattle.cove_model.proofs.ToldProofs.{words_are_words, words_tell_host}
 use Rattle.cove_model.proofs.WithinLimits.{Limits, limits_of}
 use Rattle.cove_model.specs.Cached.{IsReached}
@@ -49,8 +48,8 @@ use Rattle.cove_model.specs.Fits.{Fits}
 use Rattle.cove_model.specs.Histories.{EachEntry, Legal, after}
 use Rattle.cove_model.specs.Offers.{Next, first_behind, offer, offer_of, unless_behind}
 use Rattle.cove_model.specs.Owners.{has, is_host, page_at}
-use Rattle.cove_model.specs.Played.{Choice, Faults, Found, Missing, Note, Play, Succeeds, Unwalked, choice, choice_at, entered, entry_by, line_turn, load_turn, noted, offer_turn, store_turn, turn, walked}
-use Rattle.cove_model.specs.States.{State, ended_by, page_of}
+use Rattle.cove_model.specs.Played.{Choice, Faults, Found, Missing, Note, Play, Succeeds, Unwalked, access_turn, choice, choice_at, entered, entry_by, line_turn, noted, offer_turn, turn, walked}
+use Rattle.cove_model.specs.States.{State, ended_by, page_of, word_at}
 use Rattle.cove_model.specs.Steps.{Answers, IsDue, asked}
 use Rattle.cove_model.specs.Tlbs.{tlb}
 use Rattle.cove_model.specs.WordLaws.{Stand}
@@ -151,17 +150,17 @@ module _ (script : ScriptValue) (within : IsTrue (is_within_limits script)) (H :
       ap (offer_turn script play S held.hart) o ∙ ap (λ r. entered play held.hart (events.Call call r)) (sym answers)
   entered_turn (events.Load addr how value) o answers reached told =
       ap (offer_turn script play S held.hart) o
-      ∙ ap (load_turn play S held.hart addr) (access_choice addr (lines.Load addr) refl o (Some how) reached told)
+      ∙ ap (access_turn play held.hart (λ how. events.Load addr how (word_at S addr)) (events.LoadFault addr)) (access_choice addr (lines.Load addr) refl o (Some how) reached told)
       ∙ ap (λ v. entered play held.hart (events.Load addr how v)) (sym answers.1)
   entered_turn (events.LoadFault addr) o answers reached told =
       ap (offer_turn script play S held.hart) o
-      ∙ ap (load_turn play S held.hart addr) (access_choice addr (lines.Load addr) refl o None reached (told, answers))
+      ∙ ap (access_turn play held.hart (λ how. events.Load addr how (word_at S addr)) (events.LoadFault addr)) (access_choice addr (lines.Load addr) refl o None reached (told, answers))
   entered_turn (events.Store addr value how) o answers reached told =
       ap (offer_turn script play S held.hart) o
-      ∙ ap (store_turn play S held.hart addr value) (access_choice addr (lines.Store addr value) refl o (Some how) reached told)
+      ∙ ap (access_turn play held.hart (λ how. events.Store addr value how) (events.StoreFault addr value)) (access_choice addr (lines.Store addr value) refl o (Some how) reached told)
   entered_turn (events.StoreFault addr value) o answers reached told =
       ap (offer_turn script play S held.hart) o
-      ∙ ap (store_turn play S held.hart addr value) (access_choice addr (lines.Store addr value) refl o None reached (told, answers))
+      ∙ ap (access_turn play held.hart (λ how. events.Store addr value how) (events.StoreFault addr value)) (access_choice addr (lines.Store addr value) refl o None reached (told, answers))
   entered_turn (events.Fetch how) o answers reached told = absurd o
   entered_turn events.Exec o answers reached told = absurd o
   entered_turn (events.Access how) o answers reached told = absurd o
@@ -222,16 +221,14 @@ walk_line : (script : ScriptValue) (play : Play) (S : State) (h p : ℕ) (line :
 walk_line script play S h p (lines.Call call) asks lacks none = cc
 walk_line script play S h p (lines.Load addr) asks lacks none =
     let same : page_of addr ≡ p = same_Some (page_of addr) p asks in
-    ap (load_turn play S h addr)
+    ap (access_turn play h (λ how. events.Load addr how (word_at S addr)) (events.LoadFault addr))
     (ap (λ q. choice (has q (tlb script play.history h).pages) (play.notes h) (is_host (page_at S.pages q))) same
     ∙ ap (λ b. choice b (play.notes h) (is_host (page_at S.pages p))) lacks ∙ ap (λ n. choice false n (is_host (page_at S.pages p))) none)
-    ∙ ap (λ q. walked play h (is_host (page_at S.pages q))) same
 walk_line script play S h p (lines.Store addr value) asks lacks none =
     let same : page_of addr ≡ p = same_Some (page_of addr) p asks in
-    ap (store_turn play S h addr value)
+    ap (access_turn play h (λ how. events.Store addr value how) (events.StoreFault addr value))
     (ap (λ q. choice (has q (tlb script play.history h).pages) (play.notes h) (is_host (page_at S.pages q))) same
     ∙ ap (λ b. choice b (play.notes h) (is_host (page_at S.pages p))) lacks ∙ ap (λ n. choice false n (is_host (page_at S.pages p))) none)
-    ∙ ap (λ q. walked play h (is_host (page_at S.pages q))) same
 
 pub walk_turned : (script : ScriptValue) → IsTrue (is_within_limits script) → (words : List ℕ) (mon : Mon) → IsKept script words mon → (held left : HartValue) → Fits script mon.history held → (phase : ℕ) → IsWalked script words phase held left → (l : ScriptLine) → next_line script held.hart held.ended ≡ Some l → length mon.history < ENTRY_LIMIT → first_behind script (after script mon.history) l.phase ≡ None → IsTurned script mon.history mon.history held left true
 walk_turned script within words mon kept held left fits phase is_walked l next room none_behind = record {

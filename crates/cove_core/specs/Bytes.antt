@@ -1,8 +1,8 @@
 -- Frames by the bytes of their words.
 use Rattle.std.specs.Prelude.{◌≡◌, ℕ, ◌+◌, ◌*◌, ◌<◌, ◌==◌, if◌then◌else◌, List, length, map, slice_index}
+use Rattle.std.specs.Int.{from_le_bytes, w64}
 use Rattle.std.specs.List.{range_with_len}
 use Rattle.cove_mem.specs.Frames.{frame}
-use Rattle.cove_model.specs.States.{from_bytes}
 
 -- bytes by their addresses, with another one at an address
 abbrev pub with_byte_at : (byte : ℕ → ℕ) (addr value : ℕ) → ℕ → ℕ
@@ -14,4 +14,4 @@ pub record FramesShow (frames : List (List ℕ)) (byte : ℕ → ℕ) : Type 0 w
   pub size : (p : ℕ) → p < length frames → length (frame frames p) ≡ 512
   pub word :
       (p i : ℕ) → p < length frames → i < 512
-      → slice_index (frame frames p) i ≡ from_bytes (map byte (range_with_len (4096 * p + 8 * i) 8))
+      → slice_index (frame frames p) i ≡ from_le_bytes w64 (map byte (range_with_len (4096 * p + 8 * i) 8))

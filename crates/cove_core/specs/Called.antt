@@ -8,7 +8,7 @@ use Rattle.cove_base.specs.declared.statuses.Reply.{Reply}
 use Rattle.cove_model.specs.Effects.{reply_to, state_after}
 use Rattle.cove_model.specs.LawfulStores.{Tables, MakesLawful}
 use Rattle.cove_model.specs.States.{State}
-use Rattle.cove_model.specs.Tlbs.{is_success}
+use Rattle.cove_base.specs.Statuses.{is_success}
 use Rattle.cove_model.specs.WordLaws.{AnswersWithin, Stand}
 use Rattle.cove_model.specs.WordsStand.{FramesStand, epoch_in}
 

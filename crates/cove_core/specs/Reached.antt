@@ -27,7 +27,7 @@ use Rattle.cove_hart.specs.Needs.{access_need}
 use Rattle.cove_hart.specs.declared.needs.Need.TheVariants as needs
 use Rattle.cove_mem.specs.Frames.{frame, with_word}
 use Rattle.cove_model.specs.States.{page_of, place_of}
-use Rattle.cove_model.specs.Tlbs.{is_success}
+use Rattle.cove_base.specs.Statuses.{is_success}
 
 -- a hart has a line left, for which it needs no walk any more
 pub record IsPrepared (script : ScriptValue) (held : HartValue) : Type 0 where

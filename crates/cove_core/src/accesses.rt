@@ -9,7 +9,7 @@ ghost use Rattle.cove_hart.specs.HartStates.{value_of};
 ghost use Rattle.cove_mem.specs.Frames.{frame, with_word};
 ghost use Rattle.cove_model.specs.LawfulStores.{AllowsLawful};
 ghost use Rattle.cove_model.specs.States.{page_of, place_of};
-ghost use Rattle.cove_model.specs.Tlbs.{is_success};
+ghost use Rattle.cove_base.specs.Statuses.{is_success};
 
 use crate::calls::call;
 use crate::ground::Ground;

@@ -1,11 +1,11 @@
 //! The opening memory of a script, from its fills.
 
 ghost use Rattle.std.specs.Prelude.{◌≡◌, ℕ, ◌+◌, ◌*◌, ◌<◌, ◌≤◌, IfOk, IsTrue, length, slice_set};
-ghost use Rattle.std.specs.Int.{to_le_bytes, w64};
+ghost use Rattle.std.specs.Int.{from_le_bytes, to_le_bytes, w64};
 ghost use Rattle.cove_base.specs.Scripts.{is_fill};
 ghost use Rattle.cove_base.specs.declared.limits.TheConstants.{PAGE_LIMIT};
 ghost use Rattle.cove_core.specs.Bytes.{FramesShow, with_byte_at};
-ghost use Rattle.cove_model.specs.States.{byte_after, from_bytes, opening};
+ghost use Rattle.cove_model.specs.States.{byte_after, opening};
 ghost use Rattle.cove_model.specs.WordsStand.{FramesStand};
 
 use crate::monitors::within_limits;
@@ -55,7 +55,7 @@ fn put_byte(memory: &mut Memory, addr: u64, value: u8)
 // A word with another byte at a place, from 0 for the lowest.
 fn with_byte(word: u64, place: usize, value: u8) -> u64
     requires { place < 8 }
-    ensures { result ≡ from_bytes (slice_set (to_le_bytes w64 word) place value) }
+    ensures { result ≡ from_le_bytes w64 (slice_set (to_le_bytes w64 word) place value) }
 {
     let mut bytes = word.to_le_bytes();
     bytes[place] = value;

@@ -9,7 +9,7 @@ use Rattle.std.proofs.lemmas.Bool.Decides.{nat_tests}
 use Rattle.std.proofs.lemmas.Nat.{from_be_bytes-to_be_bytes_8}
 use Rattle.std.proofs.lemmas.Slice.Eq.{bytes_eq-Decides}
 use Rattle.cove_base.specs.Numbers.{hex_text, is_hex_digit}
-use Rattle.cove_model.specs.Reports.{word_text}
+use Rattle.cove_base.specs.EventWords.{word_text}
 use Rattle.cove_text.proofs.HexDigits.{length-hex_text}
 use Rattle.cove_text.proofs.Numerals.{digit_value-digit_char, is_digit-digit_char}
 use Rattle.hex.specs.Hex.{decode_pairs, decode_sized, hex_digit_value}

@@ -24,7 +24,8 @@ use Rattle.cove_base.specs.declared.numbers.Gpn.{Gpn}
 use Rattle.cove_base.specs.declared.statuses.Reply.{Reply}
 use Rattle.cove_base.specs.declared.statuses.Status.{Status}
 use Rattle.cove_base.specs.declared.statuses.Status.TheVariants.{Success, Failed, NotSupported, InvalidParam, Denied, InvalidAddress, AlreadyAvailable, AlreadyStarted, AlreadyStopped}
-use Rattle.cove_model.specs.Reports.{act_text, entry_line, event_text, how_text, reply_text, spaced, word_text}
+use Rattle.cove_base.specs.EventWords.{act_text, how_text, reply_text, spaced, word_text}
+use Rattle.cove_model.specs.Reports.{entry_line, event_text}
 use Rattle.cove_text.proofs.JoinedWords as joined
 use Rattle.cove_text.proofs.Numerals.{number_of-natural_text, number_of-number_text}
 use Rattle.cove_journal.specs.Forms.{act_numbers, has_line, is_act_shown, is_byte, is_event_shown, is_exit_shown, is_fault_cause, is_sized, is_trap_cause, is_word}

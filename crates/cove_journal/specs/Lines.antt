@@ -4,7 +4,7 @@ use Rattle.cove_base.specs.declared.events.Event.{Event}
 use Rattle.cove_base.specs.declared.events.Event.TheVariants as events
 use Rattle.cove_base.specs.declared.events.Exit.{Exit}
 use Rattle.cove_base.specs.declared.events.Exit.TheVariants as exits
-use Rattle.cove_model.specs.Reports.{spaced}
+use Rattle.cove_base.specs.EventWords.{spaced}
 
 -- the address of a page of guest memory has 64 bits
 abbrev pub is_addressable : Exit → Bool

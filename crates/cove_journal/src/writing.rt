@@ -1,7 +1,8 @@
 ghost use Rattle.std.specs.Prelude.{◌≡◌, ◌+◌, ◌*◌, ◌<◌, ◌≤◌, ◌++◌, length, IsTrue};
 ghost use Rattle.cove_base.specs.Numbers.{hex_text, number_text};
 ghost use Rattle.cove_base.specs.declared.events.Event.TheVariants as events;
-ghost use Rattle.cove_model.specs.Reports.{act_text, entry_line, event_text, exit_text, how_text, reply_text, spaced, word_text};
+ghost use Rattle.cove_base.specs.EventWords.{act_text, exit_text, how_text, reply_text, spaced, word_text};
+ghost use Rattle.cove_model.specs.Reports.{entry_line, event_text};
 ghost use Rattle.cove_journal.specs.Lines.{is_addressable, is_writable, last_line_of};
 
 use cove_base::{Entry, Event, Exit, GuestAct, How, QUOTE_LIMIT, Reply};

@@ -6,11 +6,10 @@ use Rattle.cove_base.specs.declared.events.Entry.{Entry}
 use Rattle.cove_base.specs.declared.events.Event.{Event}
 use Rattle.cove_base.specs.declared.scripts.Line.{Line}
 use Rattle.cove_base.specs.declared.statuses.Reply.{Reply}
-use Rattle.cove_model.specs.Effects.{effect, state_by}
+use Rattle.cove_model.specs.Effects.{effect, refusal, state_by}
 use Rattle.cove_model.specs.Examples.{call}
 use Rattle.cove_model.specs.Follows.{told}
 use Rattle.cove_model.specs.Histories.{EachEntry, Legal, after, after_entry, own}
-use Rattle.cove_model.specs.Refusals.{refusal}
 use Rattle.cove_model.specs.Reports.{ended_line, entry_line, entry_lines}
 use Rattle.cove_model.specs.States.{State, ended_by, opening}
 use Rattle.cove_model.specs.Steps.{Allows, after_event, asked, done}

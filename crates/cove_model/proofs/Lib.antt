@@ -6,7 +6,6 @@ pub mod Runs
 pub mod Soundness
 pub mod Stepping
 pub mod Vectors
-pub mod OneHart
 pub mod Usable
 pub mod Quiet
 pub mod Playing

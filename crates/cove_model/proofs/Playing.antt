@@ -16,12 +16,12 @@ use Rattle.cove_model.specs.Effects.{reply_to}
 use Rattle.cove_model.specs.Histories.{Legal, after}
 use Rattle.cove_model.specs.Offers.{Behind, Next, Nothing, Offer, offer}
 use Rattle.cove_model.specs.Owners.{has, is_host, page_at}
-use Rattle.cove_model.specs.Played.{Choice, Faults, Found, Missing, Note, Play, Succeeds, Unwalked, Walks, choice, choice_at, enough, entered, entry_by, line_turn, load_turn, noted, offer_turn, played, played_out, round, rounds, store_turn, turn, unplayed, walked}
+use Rattle.cove_model.specs.Played.{Choice, Faults, Found, Missing, Note, Play, Succeeds, Unwalked, Walks, access_turn, choice, choice_at, enough, entered, entry_by, line_turn, noted, offer_turn, played, played_out, round, rounds, turn, unplayed, walked}
 use Rattle.cove_model.specs.States.{State, ended_by, harts_below, page_of, word_at}
 use Rattle.cove_model.specs.Steps.{Allows, MaySucceed}
 use Rattle.cove_model.specs.Tlbs.{tlb}
-use Rattle.std.proofs.Common.{Bool, List, None, Option, Some, [], ap, append-nil, append_assoc, cond, eq-eqb, eqb, false, fold, inl, inr, length, nat_lt, ne_eqb, refl, suc, sym, true, zero, ℕ, ⊎_elim, ◌++◌, ◌∙◌, ◌∷◌, ◌≡◌, ◌⊎◌}
-use Rattle.std.proofs.lemmas.Bool.{cases_eq, cond-false, cond-true, cond_both}
+use Rattle.std.proofs.Common.{Bool, List, None, Option, Some, [], ap, append-nil, append_assoc, cond, eq-eqb, eqb, false, fold, inl, inr, length, nat_lt, ne_eqb, refl, subst, suc, sym, true, zero, ℕ, ⊎_elim, ◌++◌, ◌<◌, ◌∙◌, ◌∷◌, ◌≡◌, ◌≤◌, ◌⊎◌}
+use Rattle.std.proofs.lemmas.Bool.{cases_eq, cond-false, cond-true, cond_both, le-ltb, lt-ltb}
 use Rattle.std.proofs.lemmas.Option.{same_Some}
 use Rattle.cove_base.specs.declared.events.Event.TheVariants as events
 use Rattle.cove_base.specs.declared.scripts.Line.TheVariants as lines
@@ -60,6 +60,18 @@ was_longer script H e h p ne was = record {
 
 pub was_now : (script : ScriptValue) (H : List Entry) (h p : ℕ) → is_host (page_at (after script H).pages p) ≡ true → WasHost script H h p
 was_now script H h p host = record { earlier = H; since = []; split = sym (append-nil H); silent = refl; host = host }
+
+-- ---- turns and rounds
+
+pub turn_full : (limit : ℕ) (script : ScriptValue) (play : Play) (h : ℕ) → limit ≤ length play.history → turn limit script play h ≡ play
+turn_full limit script play h full = cond-false (nat_lt (length play.history) limit) _ play (le-ltb (length play.history) limit full)
+
+pub turn_open : (limit : ℕ) (script : ScriptValue) (play : Play) (h : ℕ) → length play.history < limit → turn limit script play h ≡ offer_turn script play (after script play.history) h (offer script (after script play.history) h)
+turn_open limit script play h room = cond-true (nat_lt (length play.history) limit) _ play (lt-ltb (length play.history) limit room)
+
+pub rounds_stay : (limit : ℕ) (script : ScriptValue) (n : ℕ) (play : Play) → round limit script play ≡ play → rounds limit script n play ≡ play
+rounds_stay limit script zero play e = refl
+rounds_stay limit script (suc n) play e = ap (rounds limit script n) e ∙ rounds_stay limit script n play e
 
 -- ---- an entry keeps a play fitting
 
@@ -106,14 +118,14 @@ fitting_walked script play h addr d fitting due' page = record {
 -- ---- a choice is right
 
 abbrev pub ChoiceFacts : Choice → Bool → Note → Bool → Type 0
-ChoiceFacts Walks holds note host = (holds ≡ false) × (note ≡ Unwalked)
+ChoiceFacts (Walks found) holds note host = (holds ≡ false) × (note ≡ Unwalked) × (found ≡ host)
 ChoiceFacts (Succeeds Hit) holds note host = holds ≡ true
 ChoiceFacts (Succeeds Walk) holds note host = (holds ≡ false) × ((note ≡ Found) ⊎ (host ≡ true))
 ChoiceFacts Faults holds note host = (holds ≡ false) × (host ≡ false)
 
 pub choice_facts : (holds : Bool) (note : Note) (host : Bool) → ChoiceFacts (choice holds note host) holds note host
 choice_facts true note host = refl
-choice_facts false Unwalked host = (refl, refl)
+choice_facts false Unwalked host = (refl, refl, refl)
 choice_facts false Found host = (refl, inl refl)
 choice_facts false Missing true = (refl, inr refl)
 choice_facts false Missing false = (refl, refl)
@@ -134,20 +146,20 @@ module _ (script : ScriptValue) (limits : Limits script) (play : Play) (fitting 
       let was : WasHost script play.history h (page_of addr) = ⊎_elim (λ found. fitting.notes_fit h found d next (page_of addr) asks) (λ host. was_now script play.history h (page_of addr) host) facts.1 in
       (held_since script play.history h (page_of addr) (line_on_board script h (ended_by (after script play.history) h) d limits next) was, (facts.0, was))
 
-  fitting_load : (addr : ℕ) → offer script (after script play.history) h ≡ Next (lines.Load addr) → (c : Choice) → ChoiceFacts c (Holds addr) (play.notes h) (IsHostAt addr) → Fitting script (load_turn play (after script play.history) h addr c)
-  fitting_load addr o Walks facts =
+  fitting_load : (addr : ℕ) → offer script (after script play.history) h ≡ Next (lines.Load addr) → (c : Choice) → ChoiceFacts c (Holds addr) (play.notes h) (IsHostAt addr) → Fitting script (access_turn play h (λ how. events.Load addr how (word_at (after script play.history) addr)) (events.LoadFault addr) c)
+  fitting_load addr o (Walks found) facts =
       let d = due script (after script play.history) h (lines.Load addr) o in
-      fitting_walked script play h addr d.next fitting d.found (ap asks_page d.is)
+      subst (λ b. Fitting script (walked play h b)) (sym facts.2) (fitting_walked script play h addr d.next fitting d.found (ap asks_page d.is))
   fitting_load addr o (Succeeds how) facts =
       let d = due script (after script play.history) h (lines.Load addr) o in
       let r = reach addr d.next d.found (ap asks_page d.is) how facts in
       fitting_entered script play h (events.Load addr how (word_at (after script play.history) addr)) fitting (o, (r.0, refl)) r.1
   fitting_load addr o Faults facts = fitting_entered script play h (events.LoadFault addr) fitting (o, facts.1) facts.0
 
-  fitting_store : (addr value : ℕ) → offer script (after script play.history) h ≡ Next (lines.Store addr value) → (c : Choice) → ChoiceFacts c (Holds addr) (play.notes h) (IsHostAt addr) → Fitting script (store_turn play (after script play.history) h addr value c)
-  fitting_store addr value o Walks facts =
+  fitting_store : (addr value : ℕ) → offer script (after script play.history) h ≡ Next (lines.Store addr value) → (c : Choice) → ChoiceFacts c (Holds addr) (play.notes h) (IsHostAt addr) → Fitting script (access_turn play h (λ how. events.Store addr value how) (events.StoreFault addr value) c)
+  fitting_store addr value o (Walks found) facts =
       let d = due script (after script play.history) h (lines.Store addr value) o in
-      fitting_walked script play h addr d.next fitting d.found (ap asks_page d.is)
+      subst (λ b. Fitting script (walked play h b)) (sym facts.2) (fitting_walked script play h addr d.next fitting d.found (ap asks_page d.is))
   fitting_store addr value o (Succeeds how) facts =
       let d = due script (after script play.history) h (lines.Store addr value) o in
       let r = reach addr d.next d.found (ap asks_page d.is) how facts in

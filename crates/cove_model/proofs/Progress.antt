@@ -2,17 +2,17 @@
 use Rattle.cove_base.specs.HartLines.{next_line}
 use Rattle.cove_base.specs.Scripts.{ScriptValue}
 use Rattle.cove_base.specs.declared.events.Event.{Event}
+use Rattle.cove_base.specs.declared.events.How.{How}
 use Rattle.cove_base.specs.declared.scripts.Line.{Line}
 use Rattle.cove_base.specs.declared.scripts.ScriptLine.{ScriptLine}
 use Rattle.cove_model.proofs.Beginning.{offered}
 use Rattle.cove_model.proofs.Members.{below_has, false-true}
-use Rattle.cove_model.proofs.OneHart.{rounds_stay, turn_full, turn_open}
-use Rattle.cove_model.proofs.Playing.{ChoiceFacts, choice_facts, noted_other, noted_same}
+use Rattle.cove_model.proofs.Playing.{ChoiceFacts, choice_facts, noted_other, noted_same, rounds_stay, turn_full, turn_open}
 use Rattle.cove_model.specs.Effects.{reply_to}
 use Rattle.cove_model.specs.Histories.{after}
 use Rattle.cove_model.specs.Offers.{Behind, Next, Nothing, Offer, first_behind, is_behind, is_earlier, offer}
 use Rattle.cove_model.specs.Owners.{has, is_host, page_at}
-use Rattle.cove_model.specs.Played.{Choice, Faults, Found, IsEnded, Missing, Note, Play, Succeeds, Unwalked, Walks, choice_at, enough, entered, entry_by, line_turn, load_turn, noted, offer_turn, played, round, rounds, store_turn, turn, unplayed, walked}
+use Rattle.cove_model.specs.Played.{Choice, Faults, Found, IsEnded, Missing, Note, Play, Succeeds, Unwalked, Walks, access_turn, choice_at, enough, entered, entry_by, line_turn, noted, offer_turn, played, round, rounds, turn, unplayed, walked}
 use Rattle.cove_model.specs.States.{State, ended_by, harts_below, page_of, word_at}
 use Rattle.cove_model.specs.Tlbs.{tlb}
 use Rattle.std.proofs.Common.{Bool, List, None, Option, Some, [], ap, arith, cond, eq-eqb, eqb, false, find, fold, inl, inr, length, ltb-true, nat_lt, refl, subst, suc, sym, true, zero, ℕ, ⊎_elim, ◌*◌, ◌+◌, ◌<◌, ◌||◌, ◌∙◌, ◌∷◌, ◌≡◌, ◌≢◌, ◌≤◌, ◌⊎◌}
@@ -136,20 +136,15 @@ walked_work script play h b lt none =
     let there = weight_found b in
     omega arith
 
-load_work : (script : ScriptValue) (play : Play) (S : State) (h addr : ℕ) (c : Choice) (holds host : Bool) → h < script.harts → ChoiceFacts c holds (play.notes h) host → work script play < work script (load_turn play S h addr c)
-load_work script play S h addr Walks holds host lt facts = walked_work script play h (is_host (page_at S.pages (page_of addr))) lt facts.1
-load_work script play S h addr (Succeeds how) holds host lt facts = entered_work script play h (events.Load addr how (word_at S addr)) lt
-load_work script play S h addr Faults holds host lt facts = entered_work script play h (events.LoadFault addr) lt
-
-store_work : (script : ScriptValue) (play : Play) (S : State) (h addr value : ℕ) (c : Choice) (holds host : Bool) → h < script.harts → ChoiceFacts c holds (play.notes h) host → work script play < work script (store_turn play S h addr value c)
-store_work script play S h addr value Walks holds host lt facts = walked_work script play h (is_host (page_at S.pages (page_of addr))) lt facts.1
-store_work script play S h addr value (Succeeds how) holds host lt facts = entered_work script play h (events.Store addr value how) lt
-store_work script play S h addr value Faults holds host lt facts = entered_work script play h (events.StoreFault addr value) lt
+access_work : (script : ScriptValue) (play : Play) (h : ℕ) (success : How → Event) (fault : Event) (c : Choice) (holds host : Bool) → h < script.harts → ChoiceFacts c holds (play.notes h) host → work script play < work script (access_turn play h success fault c)
+access_work script play h success fault (Walks found) holds host lt facts = walked_work script play h found lt facts.1
+access_work script play h success fault (Succeeds how) holds host lt facts = entered_work script play h (success how) lt
+access_work script play h success fault Faults holds host lt facts = entered_work script play h fault lt
 
 line_work : (script : ScriptValue) (play : Play) (S : State) (h : ℕ) (line : Line) → h < script.harts → work script play < work script (line_turn script play S h line)
 line_work script play S h (lines.Call call) lt = entered_work script play h (events.Call call (reply_to S h call)) lt
-line_work script play S h (lines.Load addr) lt = load_work script play S h addr (choice_at script play S h addr) (has (page_of addr) (tlb script play.history h).pages) (is_host (page_at S.pages (page_of addr))) lt (choice_facts (has (page_of addr) (tlb script play.history h).pages) (play.notes h) (is_host (page_at S.pages (page_of addr))))
-line_work script play S h (lines.Store addr value) lt = store_work script play S h addr value (choice_at script play S h addr) (has (page_of addr) (tlb script play.history h).pages) (is_host (page_at S.pages (page_of addr))) lt (choice_facts (has (page_of addr) (tlb script play.history h).pages) (play.notes h) (is_host (page_at S.pages (page_of addr))))
+line_work script play S h (lines.Load addr) lt = access_work script play h (λ how. events.Load addr how (word_at S addr)) (events.LoadFault addr) (choice_at script play S h addr) (has (page_of addr) (tlb script play.history h).pages) (is_host (page_at S.pages (page_of addr))) lt (choice_facts (has (page_of addr) (tlb script play.history h).pages) (play.notes h) (is_host (page_at S.pages (page_of addr))))
+line_work script play S h (lines.Store addr value) lt = access_work script play h (λ how. events.Store addr value how) (events.StoreFault addr value) (choice_at script play S h addr) (has (page_of addr) (tlb script play.history h).pages) (is_host (page_at S.pages (page_of addr))) lt (choice_facts (has (page_of addr) (tlb script play.history h).pages) (play.notes h) (is_host (page_at S.pages (page_of addr))))
 
 offer_work : (script : ScriptValue) (play : Play) (S : State) (h : ℕ) (o : Offer) → h < script.harts → (offer_turn script play S h o ≡ play) ⊎ (work script play < work script (offer_turn script play S h o))
 offer_work script play S h Nothing lt = inl refl
@@ -257,20 +252,15 @@ turn_size limit script play h le = cond_both (nat_lt (length play.history) limit
     one : (event : Event) → length play.history < limit → length (entered play h event).history ≤ limit
     one event lt = let size = length_push play.history (entry_by h event) in omega arith
 
-    load_size : (addr : ℕ) (c : Choice) → length play.history < limit → length (load_turn play (after script play.history) h addr c).history ≤ limit
-    load_size addr Walks lt = le
-    load_size addr (Succeeds how) lt = one (events.Load addr how (word_at (after script play.history) addr)) lt
-    load_size addr Faults lt = one (events.LoadFault addr) lt
-
-    store_size : (addr value : ℕ) (c : Choice) → length play.history < limit → length (store_turn play (after script play.history) h addr value c).history ≤ limit
-    store_size addr value Walks lt = le
-    store_size addr value (Succeeds how) lt = one (events.Store addr value how) lt
-    store_size addr value Faults lt = one (events.StoreFault addr value) lt
+    access_size : (success : How → Event) (fault : Event) (c : Choice) → length play.history < limit → length (access_turn play h success fault c).history ≤ limit
+    access_size success fault (Walks found) lt = le
+    access_size success fault (Succeeds how) lt = one (success how) lt
+    access_size success fault Faults lt = one fault lt
 
     line_size : (line : Line) → length play.history < limit → length (line_turn script play (after script play.history) h line).history ≤ limit
     line_size (lines.Call call) lt = one (events.Call call (reply_to (after script play.history) h call)) lt
-    line_size (lines.Load addr) lt = load_size addr (choice_at script play (after script play.history) h addr) lt
-    line_size (lines.Store addr value) lt = store_size addr value (choice_at script play (after script play.history) h addr) lt
+    line_size (lines.Load addr) lt = access_size (λ how. events.Load addr how (word_at (after script play.history) addr)) (events.LoadFault addr) (choice_at script play (after script play.history) h addr) lt
+    line_size (lines.Store addr value) lt = access_size (λ how. events.Store addr value how) (events.StoreFault addr value) (choice_at script play (after script play.history) h addr) lt
 
     offer_size : (o : Offer) → length play.history < limit → length (offer_turn script play (after script play.history) h o).history ≤ limit
     offer_size Nothing lt = le

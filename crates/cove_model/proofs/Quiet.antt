@@ -14,7 +14,8 @@ use Rattle.cove_model.specs.Examples.{call}
 use Rattle.cove_model.specs.Histories.{Legal, after}
 use Rattle.cove_model.specs.Owners.{has, may_use, page_at}
 use Rattle.cove_model.specs.States.{State}
-use Rattle.cove_model.specs.Tlbs.{Tlb, after_act, after_call, is_success, names, renewed, tlb}
+use Rattle.cove_base.specs.Statuses.{is_success}
+use Rattle.cove_model.specs.Tlbs.{Tlb, after_act, after_call, names, renewed, tlb}
 use Rattle.std.proofs.Common.{Bool, List, [], ap, cond, eqb, false, refl, subst, sym, true, ℕ, ⊎_elim, ◌++◌, ◌||◌, ◌∙◌, ◌∷◌, ◌≡◌}
 use Rattle.std.proofs.lemmas.Bool.{cases_Bool, cases_eq, or_cases}
 use Rattle.std.specs.List.{list_any}

@@ -2,7 +2,8 @@
 use Rattle.cove_base.specs.Scripts.{ScriptValue}
 use Rattle.cove_base.specs.declared.scripts.Fill.{Fill}
 use Rattle.cove_model.specs.Owners.{Free, Host, Owner, change, every, page_at, zeros}
-use Rattle.cove_model.specs.States.{from_bytes, opening, opening_byte, opening_words}
+use Rattle.cove_model.specs.States.{opening, opening_byte, opening_words}
+use Rattle.std.specs.Int.{from_le_bytes, w64}
 use Rattle.std.proofs.Common.{Bool, List, [], ap, arith, inl, inr, length, map, refl, suc, sym, true, zero, ℕ, ⊎_elim, ◌*◌, ◌+◌, ◌<◌, ◌∙◌, ◌∷◌, ◌≡◌, ◌≤◌, ◌⊎◌}
 use Rattle.std.proofs.lemmas.Bool.{and_from, and_parts}
 use Rattle.std.proofs.lemmas.List.{length-map, length-replicate}
@@ -99,7 +100,7 @@ opening_length script = length-map (range_with_len 0 script.pages) (λ q. Host (
 
 pub opening_size : (fills : List Fill) (p : ℕ) → length (opening_words fills p) ≡ 512
 unfolding opening_words
-opening_size fills p = length-map (range_with_len 0 512) (λ i. from_bytes (map (opening_byte fills) (range_with_len (4096 * p + 8 * i) 8))) ∙ length_range 0 512
+opening_size fills p = length-map (range_with_len 0 512) (λ i. from_le_bytes w64 (map (opening_byte fills) (range_with_len (4096 * p + 8 * i) 8))) ∙ length_range 0 512
 
 pub zeros_size : length zeros ≡ 512
 unfolding zeros

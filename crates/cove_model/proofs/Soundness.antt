@@ -9,11 +9,11 @@ use Rattle.cove_base.specs.declared.statuses.Status.TheVariants.{AlreadyStarted}
 use Rattle.cove_model.proofs.AtTheEnd.{after_push, done_harts, effect_ended, effect_harts, ended_length, from_end}
 use Rattle.cove_model.proofs.Members.{false-true, has_not, has_with, has_without, rises_below, rises_without}
 use Rattle.cove_model.proofs.Runs.{change_cases, length_change, opening_length, opening_page, opening_past, opening_size, page_map, zeros_size}
-use Rattle.cove_model.specs.Effects.{effect, state_by}
+use Rattle.cove_model.specs.Effects.{effect, refusal, state_by}
 use Rattle.cove_model.specs.Examples.{board, call}
 use Rattle.cove_model.specs.Histories.{after}
 use Rattle.cove_model.specs.Owners.{Converting, Free, Given, Host, Owner, answered, converted, fenced, has, page_at, reclaimed, settled, stored, without}
-use Rattle.cove_model.specs.Refusals.{first_failing, refusal}
+use Rattle.cove_model.specs.Refusals.{first_failing}
 use Rattle.cove_model.specs.Sound.{IsBoardOf, IsSound, IsSoundPage, Rises, Within}
 use Rattle.cove_model.specs.States.{State, harts_below, opening, page_of, place_of}
 use Rattle.cove_model.specs.Steps.{after_event, done}

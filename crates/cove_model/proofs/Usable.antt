@@ -7,6 +7,7 @@ use Rattle.cove_base.specs.declared.events.Entry.{Entry}
 use Rattle.cove_base.specs.declared.events.Event.{Event}
 use Rattle.cove_base.specs.declared.scripts.ScriptLine.{ScriptLine}
 use Rattle.cove_base.specs.declared.statuses.Reply.{Reply}
+use Rattle.cove_base.specs.declared.statuses.Status.TheVariants.{Success}
 use Rattle.cove_model.proofs.AtTheEnd.{Allowed, after_push, done_harts, from_end, legal_front, legal_last, own_other, own_same, tlb_other, tlb_same}
 use Rattle.cove_model.proofs.Beginning.{asked_line, due}
 use Rattle.cove_model.proofs.Members.{false-true, has_below, has_filled, has_without}
@@ -14,16 +15,16 @@ use Rattle.cove_model.proofs.Runs.{change_cases}
 use Rattle.cove_model.proofs.Soundness.{Converts, Fences, Move, Reclaims, Responds, Same, Stores, moves, sound}
 use Rattle.cove_model.proofs.WithinLimits.{IsWithin, Limits}
 use Rattle.cove_model.specs.Cached.{WasHost}
-use Rattle.cove_model.specs.Effects.{answer_by, effect, state_by, value_of}
+use Rattle.cove_model.specs.Effects.{effect, refusal, state_by, value_of}
 use Rattle.cove_model.specs.Examples.{call}
 use Rattle.cove_model.specs.Histories.{Legal, after, own}
 use Rattle.cove_model.specs.Owners.{Converting, Free, Given, Host, Owner, TheHost, answered, change, converted, fenced, has, holder, is_host, may_use, page_at, reclaimed, settled, stored, without}
-use Rattle.cove_model.specs.Refusals.{refusal}
 use Rattle.cove_model.specs.Sound.{IsSound, IsSoundPage}
 use Rattle.cove_model.specs.States.{State, ended_by, harts_below, page_of, place_of}
 use Rattle.cove_model.specs.Steps.{Answers, after_event, asked, done}
-use Rattle.cove_model.specs.Tlbs.{Tlb, after_call, is_success, nothing_held, renewed, tlb}
-use Rattle.std.proofs.Common.{Bool, List, None, Option, Some, T, [], ap, append-nil, append_assoc, arith, cond, eqb, eqb-true, false, filter, refl, slice_get, subst, suc, sym, true, zero, ℕ, ⊎_elim, ◌++◌, ◌/◌, ◌<◌, ◌∙◌, ◌∷◌, ◌≡◌, ◌≤◌}
+use Rattle.cove_base.specs.Statuses.{is_success}
+use Rattle.cove_model.specs.Tlbs.{Tlb, after_call, nothing_held, renewed, tlb}
+use Rattle.std.proofs.Common.{Bool, List, None, Option, Some, T, [], ap, append-nil, append_assoc, arith, cond, eqb, eqb-true, false, filter, refl, slice_get, subst, suc, sym, true, unwrap_or, zero, ℕ, ⊎_elim, ◌++◌, ◌/◌, ◌<◌, ◌∙◌, ◌∷◌, ◌≡◌, ◌≤◌}
 use Rattle.std.proofs.lemmas.Bool.{cases_eq, cases_lt}
 use Rattle.std.proofs.lemmas.Option.{none-some, same_Some}
 use Rattle.std.specs.List.{AllByRecursion}
@@ -125,7 +126,7 @@ use_effect S h held LocalFence p lt use' e = false-true e
 use_effect S h held (Reclaim base n) p lt use' e = use_changed reclaimed (base / 4096) n S.pages h p (use_reclaimed h) use'
 use_effect S h held _ p lt use' e = use'
 
-use_call : (S : State) (h : ℕ) (held : Tlb) (call : HostCall) (p : ℕ) (o : Option Reply) → h < S.harts → may_use h (page_at S.pages p) ≡ true → has p (after_call call (is_success (answer_by o (value_of S h call)).status) held).pages ≡ true → may_use h (page_at (state_by o S (effect S h call)).pages p) ≡ true
+use_call : (S : State) (h : ℕ) (held : Tlb) (call : HostCall) (p : ℕ) (o : Option Reply) → h < S.harts → may_use h (page_at S.pages p) ≡ true → has p (after_call call (is_success (unwrap_or {T = Reply} o (record { status = Success; value = value_of S h call })).status) held).pages ≡ true → may_use h (page_at (state_by o S (effect S h call)).pages p) ≡ true
 use_call S h held call p None lt use' e = use_effect S h held call p lt use' e
 use_call S h held call p (Some reply) lt use' e = use'
 

@@ -5,12 +5,11 @@ use Rattle.cove_base.specs.declared.events.Entry.{Entry}
 use Rattle.cove_base.specs.declared.events.How.TheVariants.{Hit, Walk}
 use Rattle.cove_base.specs.declared.statuses.Status.TheVariants.{InvalidAddress, InvalidParam, NotSupported, Success}
 use Rattle.cove_model.specs.Cached.{IsCached}
-use Rattle.cove_model.specs.Effects.{state_after}
+use Rattle.cove_model.specs.Effects.{refusal, state_after}
 use Rattle.cove_model.specs.Examples.{board, call, during_a_fence, during_a_fence_history, faulted, fresh, load, loaded, refused, said, stale, stale_history, text, there_and_back, there_and_back_history}
 use Rattle.cove_model.specs.Histories.{Legal, after, own}
 use Rattle.cove_model.specs.Owners.{is_host, page_at, zeros}
 use Rattle.cove_model.specs.Played.{played}
-use Rattle.cove_model.specs.Refusals.{refusal}
 use Rattle.cove_model.specs.Reports.{report}
 use Rattle.cove_model.specs.States.{opening_words}
 use Rattle.std.proofs.Common.{List, None, [], ap, codes, drop, refl, slice_index, sym, take, true, true≢false, ℕ, ◌++◌, ◌∙◌, ◌∷◌, ◌≡◌}

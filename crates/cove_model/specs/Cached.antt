@@ -1,11 +1,6 @@
 -- Each printed hit and walk is right, and no page changes hands while a hart may still use it.
 use Rattle.std.specs.Prelude.{◌≡◌, ◌≢◌, ℕ, true, false, List, [], ◌∷◌, ◌++◌, Option, Some, None}
-use Rattle.cove_base.specs.Scripts.{ScriptValue}
-use Rattle.cove_base.specs.declared.events.Entry.{Entry}
-use Rattle.cove_base.specs.declared.events.Event.{Event}
-use Rattle.cove_base.specs.declared.events.Event.TheVariants as events
-use Rattle.cove_base.specs.declared.events.How.{How}
-use Rattle.cove_base.specs.declared.events.How.TheVariants.{Hit, Walk}
+use Rattle.cove_model.specs.Types.{ScriptValue, Entry, Event, How, Hit, Walk}
 use Rattle.cove_model.specs.Histories.{EachEntry, after, own}
 use Rattle.cove_model.specs.Owners.{has, is_host, holder, page_at}
 use Rattle.cove_model.specs.States.{page_of}
@@ -27,17 +22,17 @@ Reaches script history h p None = has p (tlb script history h).pages ≡ false
 
 -- what an event shows of the translations is right; no guest fetches or accesses yet
 abbrev pub IsReached : ScriptValue → (history : List Entry) (hart : ℕ) → Event → Type 0
-IsReached script history h (events.Call call reply) = Unit {0}
-IsReached script history h (events.Load addr how value) = Reaches script history h (page_of addr) (Some how)
-IsReached script history h (events.LoadFault addr) = Reaches script history h (page_of addr) None
-IsReached script history h (events.Store addr value how) = Reaches script history h (page_of addr) (Some how)
-IsReached script history h (events.StoreFault addr value) = Reaches script history h (page_of addr) None
-IsReached script history h (events.Fetch how) = ⊥
-IsReached script history h events.Exec = Unit {0}
-IsReached script history h (events.Access how) = ⊥
-IsReached script history h (events.Guest act reply) = Unit {0}
-IsReached script history h (events.Evidence quote) = Unit {0}
-IsReached script history h (events.Exit exit) = Unit {0}
+IsReached script history h (Event.Call call reply) = Unit {0}
+IsReached script history h (Event.Load addr how value) = Reaches script history h (page_of addr) (Some how)
+IsReached script history h (Event.LoadFault addr) = Reaches script history h (page_of addr) None
+IsReached script history h (Event.Store addr value how) = Reaches script history h (page_of addr) (Some how)
+IsReached script history h (Event.StoreFault addr value) = Reaches script history h (page_of addr) None
+IsReached script history h (Event.Fetch how) = ⊥
+IsReached script history h Event.Exec = Unit {0}
+IsReached script history h (Event.Access how) = ⊥
+IsReached script history h (Event.Guest act reply) = Unit {0}
+IsReached script history h (Event.Evidence quote) = Unit {0}
+IsReached script history h (Event.Exit exit) = Unit {0}
 
 -- every hit, walk and fault of a history is right
 abbrev pub IsCached : ScriptValue → List Entry → Type 0

@@ -4,9 +4,8 @@ use Rattle.std.specs.declared.alloc.Global.{Global}
 
 -- the words are `sched` alone
 abbrev pub accepts : List (String Global) → Bool
-accepts [] = false
 accepts (word ∷ []) = bytes_eq (string_bytes word) (codes "sched")
-accepts (word ∷ other ∷ words) = false
+accepts words = false
 
 abbrev pub IsAccepted : List (String Global) → Type 0
 IsAccepted words = IsTrue (accepts words)

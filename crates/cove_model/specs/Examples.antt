@@ -1,18 +1,6 @@
 -- Scripts and histories to read: what the definitions give of them is proved by computing it.
 use Rattle.std.specs.Prelude.{Option, Some, ℕ, List, [], ◌∷◌, flat_map}
-use Rattle.cove_base.specs.Scripts.{ScriptValue}
-use Rattle.cove_base.specs.declared.calls.HostCall.{HostCall}
-use Rattle.cove_base.specs.declared.calls.HostCall.TheVariants.{Convert, GlobalFence, LocalFence, Reclaim}
-use Rattle.cove_base.specs.declared.events.Entry.{Entry}
-use Rattle.cove_base.specs.declared.events.Event.TheVariants as events
-use Rattle.cove_base.specs.declared.events.How.{How}
-use Rattle.cove_base.specs.declared.events.How.TheVariants.{Walk}
-use Rattle.cove_base.specs.declared.scripts.Fill.{Fill}
-use Rattle.cove_base.specs.declared.scripts.Line.TheVariants as lines
-use Rattle.cove_base.specs.declared.scripts.ScriptLine.{ScriptLine}
-use Rattle.cove_base.specs.declared.statuses.Reply.{Reply}
-use Rattle.cove_base.specs.declared.statuses.Status.{Status}
-use Rattle.cove_base.specs.declared.statuses.Status.TheVariants.{Success, AlreadyStarted, InvalidAddress}
+use Rattle.cove_model.specs.Types.{ScriptValue, HostCall, Convert, GlobalFence, LocalFence, Reclaim, Entry, How, Walk, Fill, ScriptLine, Reply, Status, Success, AlreadyStarted, InvalidAddress, Event, Line}
 use Rattle.cove_model.specs.Played.{entry_by}
 use Rattle.cove_model.specs.Reports.{ended_line}
 use Rattle.cove_model.specs.States.{State, opening}
@@ -24,20 +12,20 @@ board harts fills ls turns =
 
 -- lines of a hart: a call, a load
 abbrev pub call : (hart : ℕ) → HostCall → ScriptLine
-call hart c = record { hart = record { 0 = hart }; phase = 0; line = lines.Call c }
+call hart c = record { hart = record { 0 = hart }; phase = 0; line = Line.Call c }
 
 abbrev pub load : (hart addr : ℕ) → ScriptLine
-load hart addr = record { hart = record { 0 = hart }; phase = 0; line = lines.Load addr }
+load hart addr = record { hart = record { 0 = hart }; phase = 0; line = Line.Load addr }
 
 -- entries of a hart: a call and its answer, a load, a load that faults
 abbrev pub said : (hart : ℕ) → HostCall → Status → (value : ℕ) → Entry
-said hart c status value = entry_by hart (events.Call c (record { status = status; value = value }))
+said hart c status value = entry_by hart (Event.Call c (record { status = status; value = value }))
 
 abbrev pub loaded : (hart addr : ℕ) → How → (value : ℕ) → Entry
-loaded hart addr how value = entry_by hart (events.Load addr how value)
+loaded hart addr how value = entry_by hart (Event.Load addr how value)
 
 abbrev pub faulted : (hart addr : ℕ) → Entry
-faulted hart addr = entry_by hart (events.LoadFault addr)
+faulted hart addr = entry_by hart (Event.LoadFault addr)
 
 -- a board of one hart before any entry
 abbrev pub fresh : State

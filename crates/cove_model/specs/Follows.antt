@@ -1,9 +1,7 @@
 -- A history makes the lines of a script, each once and in order.
 use Rattle.std.specs.Prelude.{◌≡◌, ℕ, ◌<◌, List, length, take, map, filter_map}
 use Rattle.cove_base.specs.HartLines.{lines_of}
-use Rattle.cove_base.specs.Scripts.{ScriptValue}
-use Rattle.cove_base.specs.declared.events.Entry.{Entry}
-use Rattle.cove_base.specs.declared.scripts.Line.{Line}
+use Rattle.cove_model.specs.Types.{ScriptValue, Entry, Line}
 use Rattle.cove_model.specs.Histories.{own}
 use Rattle.cove_model.specs.Steps.{asked}
 

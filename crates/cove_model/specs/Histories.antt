@@ -1,7 +1,6 @@
 -- Histories: the state that one leads to, and which are legal.
 use Rattle.std.specs.Prelude.{ℕ, ◌==◌, List, [], ◌∷◌, ◌++◌, filter, fold}
-use Rattle.cove_base.specs.Scripts.{ScriptValue}
-use Rattle.cove_base.specs.declared.events.Entry.{Entry}
+use Rattle.cove_model.specs.Types.{ScriptValue, Entry}
 use Rattle.cove_model.specs.States.{State, opening}
 use Rattle.cove_model.specs.Steps.{Allows, after_event}
 

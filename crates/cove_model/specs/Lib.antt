@@ -1,3 +1,4 @@
+pub mod Types
 pub mod Owners
 pub mod States
 pub mod Refusals

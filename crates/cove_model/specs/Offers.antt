@@ -1,9 +1,7 @@
 -- What the machine offers a hart.
 use Rattle.std.specs.Prelude.{◌≡◌, ◌<◌, ◌≤◌, ℕ, Bool, false, nat_lt, Option, Some, None, find}
 use Rattle.cove_base.specs.HartLines.{next_line}
-use Rattle.cove_base.specs.Scripts.{ScriptValue}
-use Rattle.cove_base.specs.declared.scripts.Line.{Line}
-use Rattle.cove_base.specs.declared.scripts.ScriptLine.{ScriptLine}
+use Rattle.cove_model.specs.Types.{ScriptValue, Line, ScriptLine}
 use Rattle.cove_model.specs.States.{State, harts_below, ended_by}
 
 -- no line is left; or a hart has a line of an earlier phase left; or the hart's next line

@@ -20,15 +20,11 @@ pub data Owner : Type 0 where
 
 abbrev pub is_host : Owner → Bool
 is_host (Host words) = true
-is_host (Converting held waiting words) = false
-is_host Free = false
-is_host (Given tvm purpose) = false
+is_host owner = false
 
 abbrev pub is_free : Owner → Bool
-is_free (Host words) = false
-is_free (Converting held waiting words) = false
 is_free Free = true
-is_free (Given tvm purpose) = false
+is_free owner = false
 
 -- a number is in a list
 abbrev pub has : (n : ℕ) → List ℕ → Bool
@@ -50,53 +46,42 @@ settled held (hart ∷ harts) words = Converting held (Some (hart ∷ harts)) wo
 -- a page of the host after its convert: every hart may still use it
 abbrev pub converted : (harts : List ℕ) → Owner → Owner
 converted harts (Host words) = Converting harts None words
-converted harts (Converting held waiting words) = Converting held waiting words
-converted harts Free = Free
-converted harts (Given tvm purpose) = Given tvm purpose
+converted harts owner = owner
 
 -- a page after a global fence of a hart that began with these others
 abbrev pub fenced : (hart : ℕ) (others : List ℕ) → Owner → Owner
-fenced hart others (Host words) = Host words
 fenced hart others (Converting held None words) = settled (without hart held) others words
 fenced hart others (Converting held (Some waiting) words) = settled (without hart held) waiting words
-fenced hart others Free = Free
-fenced hart others (Given tvm purpose) = Given tvm purpose
+fenced hart others owner = owner
 
 -- a page after a local fence of a hart
 abbrev pub answered : (hart : ℕ) → Owner → Owner
-answered hart (Host words) = Host words
 answered hart (Converting held None words) = Converting (without hart held) None words
 answered hart (Converting held (Some waiting) words) = settled (without hart held) (without hart waiting) words
-answered hart Free = Free
-answered hart (Given tvm purpose) = Given tvm purpose
+answered hart owner = owner
 
 -- a free page after it was given back to the host
 abbrev pub reclaimed : Owner → Owner
-reclaimed (Host words) = Host words
-reclaimed (Converting held waiting words) = Converting held waiting words
 reclaimed Free = Host zeros
-reclaimed (Given tvm purpose) = Given tvm purpose
+reclaimed owner = owner
 
 -- a page after a word of it was written
 abbrev pub stored : (place value : ℕ) → Owner → Owner
 stored place value (Host words) = Host (slice_set words place value)
 stored place value (Converting held waiting words) = Converting held waiting (slice_set words place value)
-stored place value Free = Free
-stored place value (Given tvm purpose) = Given tvm purpose
+stored place value owner = owner
 
 -- the words that the host sees of a page
 abbrev pub words_of : Owner → List ℕ
 words_of (Host words) = words
 words_of (Converting held waiting words) = words
-words_of Free = []
-words_of (Given tvm purpose) = []
+words_of owner = []
 
 -- a hart may use the page: it is the host's, or on its way and the hart may hold a translation of it yet
 abbrev pub may_use : (hart : ℕ) → Owner → Bool
 may_use hart (Host words) = true
 may_use hart (Converting held waiting words) = has hart held
-may_use hart Free = false
-may_use hart (Given tvm purpose) = false
+may_use hart owner = false
 
 -- to whom a page belongs
 pub data Holder : Type 0 where

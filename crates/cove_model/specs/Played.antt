@@ -1,22 +1,12 @@
 -- The history that a script plays by turns.
 use Rattle.std.specs.Prelude.{◌≡◌, ℕ, zero, suc, ◌+◌, ◌*◌, ◌<◌, ◌≤◌, ◌⊎◌, ◌==◌, Bool, true, false, nat_lt, if◌then◌else◌, List, [], ◌∷◌, ◌++◌, length, fold, None}
-use Rattle.std.specs.List.{AllByRecursion}
 use Rattle.cove_base.specs.HartLines.{next_line}
-use Rattle.cove_base.specs.Scripts.{ScriptValue}
-use Rattle.cove_base.specs.declared.calls.HostCall.{HostCall}
-use Rattle.cove_base.specs.declared.events.Entry.{Entry}
-use Rattle.cove_base.specs.declared.events.Event.{Event}
-use Rattle.cove_base.specs.declared.events.Event.TheVariants as events
-use Rattle.cove_base.specs.declared.events.How.{How}
-use Rattle.cove_base.specs.declared.events.How.TheVariants.{Hit, Walk}
-use Rattle.cove_base.specs.declared.scripts.Line.{Line}
-use Rattle.cove_base.specs.declared.scripts.Line.TheVariants as lines
-use Rattle.cove_base.specs.declared.scripts.ScriptLine.{ScriptLine}
+use Rattle.cove_model.specs.Types.{ScriptValue, Entry, Event, How, Hit, Walk, Line}
 use Rattle.cove_model.specs.Owners.{has, is_host, page_at}
 use Rattle.cove_model.specs.States.{State, harts_below, ended_by, page_of, word_at}
 use Rattle.cove_model.specs.Effects.{reply_to}
 use Rattle.cove_model.specs.Offers.{Offer, Nothing, Behind, Next, offer}
-use Rattle.cove_model.specs.Histories.{after, after_entry}
+use Rattle.cove_model.specs.Histories.{after}
 use Rattle.cove_model.specs.Tlbs.{tlb}
 
 -- what a hart knows of a walk that it made and did not use yet
@@ -51,41 +41,38 @@ abbrev pub entered : Play → (hart : ℕ) → Event → Play
 entered play hart event =
     record { history = play.history ++ entry_by hart event ∷ []; notes = noted hart Unwalked play.notes }
 
--- what a hart makes of an access: a walk, a success or a fault
+-- what a hart makes of an access: a walk, which finds the page or not, a success or a fault
 pub data Choice : Type 0 where
-  Walks : Choice
+  Walks : (found : Bool) → Choice
   Succeeds : (how : How) → Choice
   Faults : Choice
 
 -- the choice, where the hart holds the page or not, has this note, and the page is the host's or not
 abbrev pub choice : (holds : Bool) → Note → (is_host : Bool) → Choice
 choice true note host = Succeeds Hit
-choice false Unwalked host = Walks
+choice false Unwalked host = Walks host
 choice false Found host = Succeeds Walk
 choice false Missing true = Succeeds Walk
 choice false Missing false = Faults
-
--- a turn at a load, and at a store
-abbrev pub load_turn : Play → State → (hart addr : ℕ) → Choice → Play
-load_turn play S h addr Walks = walked play h (is_host (page_at S.pages (page_of addr)))
-load_turn play S h addr (Succeeds how) = entered play h (events.Load addr how (word_at S addr))
-load_turn play S h addr Faults = entered play h (events.LoadFault addr)
-
-abbrev pub store_turn : Play → State → (hart addr value : ℕ) → Choice → Play
-store_turn play S h addr value Walks = walked play h (is_host (page_at S.pages (page_of addr)))
-store_turn play S h addr value (Succeeds how) = entered play h (events.Store addr value how)
-store_turn play S h addr value Faults = entered play h (events.StoreFault addr value)
 
 -- the choice of a hart at an address
 abbrev pub choice_at : ScriptValue → Play → State → (hart addr : ℕ) → Choice
 choice_at script play S h addr =
     choice (has (page_of addr) (tlb script play.history h).pages) (play.notes h) (is_host (page_at S.pages (page_of addr)))
 
+-- a turn at an access, whose success and fault are these events
+abbrev pub access_turn : Play → (hart : ℕ) → (success : How → Event) (fault : Event) → Choice → Play
+access_turn play h success fault (Walks found) = walked play h found
+access_turn play h success fault (Succeeds how) = entered play h (success how)
+access_turn play h success fault Faults = entered play h fault
+
 -- a turn at a line
 abbrev pub line_turn : ScriptValue → Play → State → (hart : ℕ) → Line → Play
-line_turn script play S h (lines.Call call) = entered play h (events.Call call (reply_to S h call))
-line_turn script play S h (lines.Load addr) = load_turn play S h addr (choice_at script play S h addr)
-line_turn script play S h (lines.Store addr value) = store_turn play S h addr value (choice_at script play S h addr)
+line_turn script play S h (Line.Call call) = entered play h (Event.Call call (reply_to S h call))
+line_turn script play S h (Line.Load addr) =
+    access_turn play h (λ how. Event.Load addr how (word_at S addr)) (Event.LoadFault addr) (choice_at script play S h addr)
+line_turn script play S h (Line.Store addr value) =
+    access_turn play h (λ how. Event.Store addr value how) (Event.StoreFault addr value) (choice_at script play S h addr)
 
 -- a turn at an offer
 abbrev pub offer_turn : ScriptValue → Play → State → (hart : ℕ) → Offer → Play
@@ -129,29 +116,3 @@ IsOver script history =
 -- nothing is left, or the limit was reached
 abbrev pub IsEnded : (limit : ℕ) → ScriptValue → List Entry → Type 0
 IsEnded limit script history = (limit ≤ length history) ⊎ IsOver script history
-
--- the entry of a call, with its reply
-abbrev pub call_entry : State → (hart : ℕ) → HostCall → Entry
-call_entry S h call = entry_by h (events.Call call (reply_to S h call))
-
--- the entry of a line that is a call
-abbrev pub entry_of : State → (hart : ℕ) → Line → List Entry
-entry_of S h (lines.Call call) = call_entry S h call ∷ []
-entry_of S h (lines.Load addr) = []
-entry_of S h (lines.Store addr value) = []
-
--- the entries of calls that are answered one after another, from a state on
-abbrev pub alone : State → List ScriptLine → List Entry
-alone S [] = []
-alone S (line ∷ rest) =
-    entry_of S line.hart.0 line.line ++ alone (fold after_entry S (entry_of S line.hart.0 line.line)) rest
-
--- the line is a call
-abbrev pub IsCall : Line → Type 0
-IsCall (lines.Call call) = Unit {0}
-IsCall (lines.Load addr) = ⊥
-IsCall (lines.Store addr value) = ⊥
-
--- every line of a script is a call
-abbrev pub AreCalls : ScriptValue → Type 0
-AreCalls script = AllByRecursion (λ line. IsCall line.line) script.lines

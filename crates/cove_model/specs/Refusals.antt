@@ -1,12 +1,8 @@
--- Why a call is refused: its checks in order, of which the first that fails answers.
-use Rattle.std.specs.Prelude.{ℕ, ◌+◌, ◌/◌, Bool, not, ◌&&◌, nat_le, nat_lt, if◌then◌else◌, List, [], ◌∷◌, length, slice_index, Option, Some, None, is_some}
+-- Why a call is refused: its checks, of which the first that fails answers.
+use Rattle.std.specs.Prelude.{ℕ, ◌+◌, ◌/◌, Bool, not, ◌&&◌, nat_le, nat_lt, if◌then◌else◌, List, [], ◌∷◌, length, slice_index, Option, Some, None}
 use Rattle.std.specs.List.{list_any}
 use Rattle.cove_base.specs.Ranges.{is_bad_count, is_unaligned, is_outside}
-use Rattle.cove_base.specs.declared.calls.HostCall.{HostCall}
-use Rattle.cove_base.specs.declared.calls.HostCall.TheVariants.{Convert, GlobalFence, LocalFence, Reclaim, Create, Region, Tables, Measured, Vcpu, Finalize, Zero, Shared, Run, Invalidate, TvmFence, Validate, Remove, Destroy, Kick, Info, Bind, Unbind, Unbound, Inject}
-use Rattle.cove_base.specs.declared.statuses.Reply.{Reply}
-use Rattle.cove_base.specs.declared.statuses.Status.{Status}
-use Rattle.cove_base.specs.declared.statuses.Status.TheVariants.{NotSupported, InvalidParam, Denied, InvalidAddress, AlreadyStarted}
+use Rattle.cove_model.specs.Types.{Reply, Status, InvalidParam, Denied, InvalidAddress, AlreadyStarted}
 use Rattle.cove_model.specs.Owners.{is_host, is_free, every}
 use Rattle.cove_model.specs.States.{State, shared_pages}
 
@@ -55,48 +51,3 @@ NoneShared S base n =
 abbrev pub AllAnswered : State → Check
 AllAnswered S =
     record { fails = nat_lt 0 (length S.unanswered); status = AlreadyStarted; value = slice_index S.unanswered 0 }
-
--- the checks of a call by a hart in a state, in order; there are none yet of a call that is not built
-abbrev pub checks : HostCall → Option (State → (hart : ℕ) → List Check)
-checks (Convert base n) =
-    Some (λ S h. Count n ∷ Aligned base ∷ Inside S base n ∷ AllHost S base n ∷ NoneShared S base n ∷ [])
-checks GlobalFence = Some (λ S h. AllAnswered S ∷ [])
-checks LocalFence = Some (λ S h. [])
-checks (Reclaim base n) = Some (λ S h. Count n ∷ Aligned base ∷ Inside S base n ∷ AllFree S base n ∷ [])
-checks (Create root state) = None
-checks (Region t gpa len) = None
-checks (Tables t base n) = None
-checks (Measured t src dst n gpa) = None
-checks (Vcpu t v state) = None
-checks (Finalize t pc arg) = None
-checks (Zero t base n gpa) = None
-checks (Shared t base n gpa) = None
-checks (Run t v fuel) = None
-checks (Invalidate t gpa n) = None
-checks (TvmFence t) = None
-checks (Validate t gpa n) = None
-checks (Remove t gpa n) = None
-checks (Destroy t) = None
-checks (Kick hart) = None
-checks Info = None
-checks (Bind t v hart file) = None
-checks (Unbind t v) = None
-checks (Unbound t v) = None
-checks (Inject t v id) = None
-
--- whether the monitor has the call yet
-abbrev pub is_built : HostCall → Bool
-is_built call = is_some (checks call)
-
--- the answer to a call that is not built
-abbrev pub not_supported : Reply
-not_supported = record { status = NotSupported; value = 0 }
-
--- the refusal by these checks; a call that is not built is not supported
-abbrev pub refusal_by : Option (State → (hart : ℕ) → List Check) → State → (hart : ℕ) → Option Reply
-refusal_by None S h = Some not_supported
-refusal_by (Some rows) S h = first_failing (rows S h)
-
--- the refusal of a call by a hart, if it is refused
-abbrev pub refusal : State → (hart : ℕ) → HostCall → Option Reply
-refusal S h call = refusal_by (checks call) S h

@@ -1,7 +1,7 @@
 -- What holds of the pages after every history.
 use Rattle.std.specs.Prelude.{◌≡◌, ℕ, ◌<◌, true, List, [], ◌∷◌, length, Some, None}
 use Rattle.std.specs.List.{AllByRecursion}
-use Rattle.cove_base.specs.Scripts.{ScriptValue}
+use Rattle.cove_model.specs.Types.{ScriptValue}
 use Rattle.cove_model.specs.Owners.{Owner, Host, Converting, Free, Given, has, page_at}
 use Rattle.cove_model.specs.States.{State, harts_below}
 

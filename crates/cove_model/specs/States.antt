@@ -1,8 +1,8 @@
 -- What the monitor knows, and how it begins.
-use Rattle.std.specs.Prelude.{ℕ, ◌+◌, ◌-◌, ◌*◌, ◌/◌, ◌%◌, nat_lt, if◌then◌else◌, List, [], ◌∷◌, map, fold, replicate, slice_index, slice_index_or}
+use Rattle.std.specs.Prelude.{ℕ, ◌+◌, ◌-◌, ◌*◌, ◌/◌, ◌%◌, nat_lt, if◌then◌else◌, List, [], map, fold, replicate, slice_index, slice_index_or}
+use Rattle.std.specs.Int.{from_le_bytes, w64}
 use Rattle.std.specs.List.{range_with_len}
-use Rattle.cove_base.specs.declared.scripts.Fill.{Fill}
-use Rattle.cove_base.specs.Scripts.{ScriptValue}
+use Rattle.cove_model.specs.Types.{Fill, ScriptValue}
 use Rattle.cove_model.specs.Owners.{Owner, Host, page_at, words_of}
 
 -- the state of the one-thread monitor; the first three fields never change
@@ -48,15 +48,10 @@ byte_after addr before fill =
 abbrev pub opening_byte : (fills : List Fill) (addr : ℕ) → ℕ
 opening_byte fills addr = fold (byte_after addr) 0 fills
 
--- a number from its bytes, the lowest first
-abbrev pub from_bytes : List ℕ → ℕ
-from_bytes [] = 0
-from_bytes (byte ∷ bytes) = byte + 256 * from_bytes bytes
-
 -- the 512 words of a page of the opening memory, each little-endian
 unfoldable pub opening_words : (fills : List Fill) (p : ℕ) → List ℕ
 opening_words fills p =
-    map (λ i. from_bytes (map (opening_byte fills) (range_with_len (4096 * p + 8 * i) 8))) (range_with_len 0 512)
+    map (λ i. from_le_bytes w64 (map (opening_byte fills) (range_with_len (4096 * p + 8 * i) 8))) (range_with_len 0 512)
 
 -- the state before any entry: every page is the host's
 abbrev pub opening : ScriptValue → State

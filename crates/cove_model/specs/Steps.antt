@@ -1,11 +1,6 @@
 -- The legal step: which event a hart may make, and the state after it.
 use Rattle.std.specs.Prelude.{true, false, ◌≡◌, ℕ, ◌+◌, slice_set, Option, Some, None}
-use Rattle.cove_base.specs.Scripts.{ScriptValue}
-use Rattle.cove_base.specs.declared.events.Entry.{Entry}
-use Rattle.cove_base.specs.declared.events.Event.{Event}
-use Rattle.cove_base.specs.declared.events.Event.TheVariants as events
-use Rattle.cove_base.specs.declared.scripts.Line.{Line}
-use Rattle.cove_base.specs.declared.scripts.Line.TheVariants as lines
+use Rattle.cove_model.specs.Types.{ScriptValue, Entry, Event, Line}
 use Rattle.cove_model.specs.Owners.{is_host, may_use, stored, page_at, change}
 use Rattle.cove_model.specs.States.{State, ended_by, page_of, place_of, word_at}
 use Rattle.cove_model.specs.Effects.{reply_to, state_after}
@@ -13,17 +8,17 @@ use Rattle.cove_model.specs.Offers.{Next, offer}
 
 -- the script's line that an event answers; an event of a guest answers none
 abbrev pub asked : Event → Option Line
-asked (events.Call call reply) = Some (lines.Call call)
-asked (events.Load addr how value) = Some (lines.Load addr)
-asked (events.LoadFault addr) = Some (lines.Load addr)
-asked (events.Store addr value how) = Some (lines.Store addr value)
-asked (events.StoreFault addr value) = Some (lines.Store addr value)
-asked (events.Fetch how) = None
-asked events.Exec = None
-asked (events.Access how) = None
-asked (events.Guest act reply) = None
-asked (events.Evidence quote) = None
-asked (events.Exit exit) = None
+asked (Event.Call call reply) = Some (Line.Call call)
+asked (Event.Load addr how value) = Some (Line.Load addr)
+asked (Event.LoadFault addr) = Some (Line.Load addr)
+asked (Event.Store addr value how) = Some (Line.Store addr value)
+asked (Event.StoreFault addr value) = Some (Line.Store addr value)
+asked (Event.Fetch how) = None
+asked Event.Exec = None
+asked (Event.Access how) = None
+asked (Event.Guest act reply) = None
+asked (Event.Evidence quote) = None
+asked (Event.Exit exit) = None
 
 -- the line is the one that the hart is offered; no guest runs yet
 abbrev pub IsDue : ScriptValue → State → (hart : ℕ) → Option Line → Type 0
@@ -39,17 +34,17 @@ MayFault S addr = is_host (page_at S.pages (page_of addr)) ≡ false
 
 -- the event says what its line is answered; no guest is answered yet
 abbrev pub Answers : State → (hart : ℕ) → Event → Type 0
-Answers S h (events.Call call reply) = reply ≡ reply_to S h call
-Answers S h (events.Load addr how value) = MaySucceed S h addr × (value ≡ word_at S addr)
-Answers S h (events.LoadFault addr) = MayFault S addr
-Answers S h (events.Store addr value how) = MaySucceed S h addr
-Answers S h (events.StoreFault addr value) = MayFault S addr
-Answers S h (events.Fetch how) = ⊥
-Answers S h events.Exec = ⊥
-Answers S h (events.Access how) = ⊥
-Answers S h (events.Guest act reply) = ⊥
-Answers S h (events.Evidence quote) = ⊥
-Answers S h (events.Exit exit) = ⊥
+Answers S h (Event.Call call reply) = reply ≡ reply_to S h call
+Answers S h (Event.Load addr how value) = MaySucceed S h addr × (value ≡ word_at S addr)
+Answers S h (Event.LoadFault addr) = MayFault S addr
+Answers S h (Event.Store addr value how) = MaySucceed S h addr
+Answers S h (Event.StoreFault addr value) = MayFault S addr
+Answers S h (Event.Fetch how) = ⊥
+Answers S h Event.Exec = ⊥
+Answers S h (Event.Access how) = ⊥
+Answers S h (Event.Guest act reply) = ⊥
+Answers S h (Event.Evidence quote) = ⊥
+Answers S h (Event.Exit exit) = ⊥
 
 -- a hart may make the event
 abbrev pub Allows : ScriptValue → State → (hart : ℕ) → Event → Type 0
@@ -57,18 +52,18 @@ Allows script S h event = IsDue script S h (asked event) × Answers S h event
 
 -- the state after what the event did
 abbrev pub done : State → (hart : ℕ) → Event → State
-done S h (events.Call call reply) = state_after S h call
-done S h (events.Load addr how value) = S
-done S h (events.LoadFault addr) = S
-done S h (events.Store addr value how) =
+done S h (Event.Call call reply) = state_after S h call
+done S h (Event.Load addr how value) = S
+done S h (Event.LoadFault addr) = S
+done S h (Event.Store addr value how) =
     record S { pages = change (stored (place_of addr) value) (page_of addr) 1 S.pages }
-done S h (events.StoreFault addr value) = S
-done S h (events.Fetch how) = S
-done S h events.Exec = S
-done S h (events.Access how) = S
-done S h (events.Guest act reply) = S
-done S h (events.Evidence quote) = S
-done S h (events.Exit exit) = S
+done S h (Event.StoreFault addr value) = S
+done S h (Event.Fetch how) = S
+done S h Event.Exec = S
+done S h (Event.Access how) = S
+done S h (Event.Guest act reply) = S
+done S h (Event.Evidence quote) = S
+done S h (Event.Exit exit) = S
 
 -- the state after a hart ended a line
 abbrev pub end_line : (hart : ℕ) → State → State

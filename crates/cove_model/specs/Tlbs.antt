@@ -1,19 +1,9 @@
 -- The translations that a hart holds after a history.
-use Rattle.std.specs.Prelude.{ℕ, ◌==◌, ◌||◌, Bool, true, false, if◌then◌else◌, List, [], ◌∷◌, ◌++◌}
+use Rattle.std.specs.Prelude.{ℕ, ◌==◌, ◌||◌, Bool, if◌then◌else◌, List, [], ◌∷◌, ◌++◌}
 use Rattle.std.specs.List.{list_any}
 use Rattle.cove_base.specs.Rings.{keep_last, ring_room}
-use Rattle.cove_base.specs.Scripts.{ScriptValue}
-use Rattle.cove_base.specs.declared.calls.GuestAct.{GuestAct}
-use Rattle.cove_base.specs.declared.calls.GuestAct.TheVariants as acts
-use Rattle.cove_base.specs.declared.calls.HostCall.{HostCall}
-use Rattle.cove_base.specs.declared.calls.HostCall.TheVariants.{Convert, GlobalFence, LocalFence, Reclaim, Create, Region, Tables, Measured, Vcpu, Finalize, Zero, Shared, Run, Invalidate, TvmFence, Validate, Remove, Destroy, Kick, Info, Bind, Unbind, Unbound, Inject}
-use Rattle.cove_base.specs.declared.events.Entry.{Entry}
-use Rattle.cove_base.specs.declared.events.Event.{Event}
-use Rattle.cove_base.specs.declared.events.Event.TheVariants as events
-use Rattle.cove_base.specs.declared.events.How.{How}
-use Rattle.cove_base.specs.declared.events.How.TheVariants.{Hit, Walk}
-use Rattle.cove_base.specs.declared.statuses.Status.{Status}
-use Rattle.cove_base.specs.declared.statuses.Status.TheVariants as statuses
+use Rattle.cove_base.specs.Statuses.{is_success}
+use Rattle.cove_model.specs.Types.{ScriptValue, GuestAct, HostCall, Convert, GlobalFence, LocalFence, Reclaim, Create, Region, Tables, Measured, Vcpu, Finalize, Zero, Shared, Run, Invalidate, TvmFence, Validate, Remove, Destroy, Kick, Info, Bind, Unbind, Unbound, Inject, Entry, Event, How, Hit, Walk}
 use Rattle.cove_model.specs.Histories.{after_entry}
 use Rattle.cove_model.specs.Owners.{has}
 use Rattle.cove_model.specs.States.{State, opening, page_of}
@@ -36,17 +26,6 @@ without_guests held = record held { fetches = []; accesses = [] }
 abbrev pub filled : How → (p : ℕ) → List ℕ → List ℕ
 filled Hit p pages = pages
 filled Walk p pages = keep_last ring_room (pages ++ p ∷ [])
-
-abbrev pub is_success : Status → Bool
-is_success statuses.Success = true
-is_success statuses.Failed = false
-is_success statuses.NotSupported = false
-is_success statuses.InvalidParam = false
-is_success statuses.Denied = false
-is_success statuses.InvalidAddress = false
-is_success statuses.AlreadyAvailable = false
-is_success statuses.AlreadyStarted = false
-is_success statuses.AlreadyStopped = false
 
 -- the translations after a call: an accepted global fence and every local fence empty all, an accepted run those of guests
 abbrev pub after_call : HostCall → (accepted : Bool) → Tlb → Tlb
@@ -77,27 +56,27 @@ after_call (Inject t v id) accepted held = held
 
 -- the translations after an act of a guest: an accepted share or unshare empties those of guests
 abbrev pub after_act : GuestAct → (accepted : Bool) → Tlb → Tlb
-after_act (acts.Share gpa len) accepted held = if accepted then without_guests held else held
-after_act (acts.Unshare gpa len) accepted held = if accepted then without_guests held else held
-after_act acts.Extend accepted held = held
-after_act acts.Evidence accepted held = held
-after_act (acts.Allow id) accepted held = held
-after_act (acts.Deny id) accepted held = held
-after_act acts.Other accepted held = held
+after_act (GuestAct.Share gpa len) accepted held = if accepted then without_guests held else held
+after_act (GuestAct.Unshare gpa len) accepted held = if accepted then without_guests held else held
+after_act GuestAct.Extend accepted held = held
+after_act GuestAct.Evidence accepted held = held
+after_act (GuestAct.Allow id) accepted held = held
+after_act (GuestAct.Deny id) accepted held = held
+after_act GuestAct.Other accepted held = held
 
 -- the translations of a hart after an event of its own in a state; no guest fetches or accesses yet
 abbrev pub renewed : State → Tlb → Event → Tlb
-renewed S held (events.Call call reply) = after_call call (is_success reply.status) held
-renewed S held (events.Load addr how value) = record held { pages = filled how (page_of addr) held.pages }
-renewed S held (events.LoadFault addr) = held
-renewed S held (events.Store addr value how) = record held { pages = filled how (page_of addr) held.pages }
-renewed S held (events.StoreFault addr value) = held
-renewed S held (events.Fetch how) = held
-renewed S held events.Exec = held
-renewed S held (events.Access how) = held
-renewed S held (events.Guest act reply) = after_act act (is_success reply.status) held
-renewed S held (events.Evidence quote) = held
-renewed S held (events.Exit exit) = without_guests held
+renewed S held (Event.Call call reply) = after_call call (is_success reply.status) held
+renewed S held (Event.Load addr how value) = record held { pages = filled how (page_of addr) held.pages }
+renewed S held (Event.LoadFault addr) = held
+renewed S held (Event.Store addr value how) = record held { pages = filled how (page_of addr) held.pages }
+renewed S held (Event.StoreFault addr value) = held
+renewed S held (Event.Fetch how) = held
+renewed S held Event.Exec = held
+renewed S held (Event.Access how) = held
+renewed S held (Event.Guest act reply) = after_act act (is_success reply.status) held
+renewed S held (Event.Evidence quote) = held
+renewed S held (Event.Exit exit) = without_guests held
 
 -- the translations of a hart after an entry of any hart in a state
 abbrev pub held_after : (hart : ℕ) → State → Tlb → Entry → Tlb

@@ -20,13 +20,12 @@ ghost use Rattle.cove_base.specs.declared.statuses.Status.TheVariants.{InvalidAd
 ghost use Rattle.cove_model.specs.Cached.{IsCached, IsQuiet, IsQuietAt, IsReached, WasHost};
 ghost use Rattle.cove_model.specs.Examples.{board, during_a_fence, during_a_fence_history, faulted, fresh, load, refused, stale, stale_history, text, there_and_back, there_and_back_history};
 ghost use Rattle.cove_model.specs.Fits.{Fits, IsSought, after_own};
-ghost use Rattle.cove_model.specs.Effects.{state_after};
+ghost use Rattle.cove_model.specs.Effects.{is_built, refusal, state_after};
 ghost use Rattle.cove_model.specs.Follows.{Begins, Follows, told};
 ghost use Rattle.cove_model.specs.Histories.{Legal, after, after_entry, own};
 ghost use Rattle.cove_model.specs.Offers.{Next, NoneEarlier, first_behind, offer};
 ghost use Rattle.cove_model.specs.Owners.{has, is_host, may_use, page_at};
-ghost use Rattle.cove_model.specs.Played.{AreCalls, IsEnded, IsOver, Play, alone, played, round};
-ghost use Rattle.cove_model.specs.Refusals.{is_built, not_supported, refusal};
+ghost use Rattle.cove_model.specs.Played.{IsEnded, IsOver, Play, played, round};
 ghost use Rattle.cove_model.specs.Reports.{ended_line, entry_line, entry_lines, report};
 ghost use Rattle.cove_model.specs.Sound.{IsBoardOf, IsSound};
 ghost use Rattle.cove_model.specs.States.{State, ended_by, opening};
@@ -92,7 +91,7 @@ pub fn offers_are_allowed()
 /// A call that is not built is not supported, in every state.
 pub fn unbuilt_calls_are_refused()
     ensures { (S : State) (hart : ℕ) (call : HostCall)
-        → is_built call ≡ false → refusal S hart call ≡ Some not_supported }
+        → is_built call ≡ false → refusal S hart call ≡ refused NotSupported }
 {}
 
 /// After every history, legal or not, the pages are sound and the board is the script's.
@@ -164,13 +163,6 @@ pub fn played_histories_are_legal()
 pub fn still_rounds_are_last()
     ensures { (limit : ℕ) (script : ScriptValue) (play : Play)
         → round limit script play ≡ play → IsEnded limit script play.history }
-{}
-
-/// A script of one hart whose lines are calls plays their answers, one after another.
-pub fn one_hart_plays_its_answers()
-    ensures { (limit : ℕ) (script : ScriptValue)
-        → IsTrue (is_within_limits script) → script.harts ≡ 1 → AreCalls script → length script.lines ≤ limit
-        → played limit script ≡ alone (opening script) script.lines }
 {}
 
 /// The first check that fails answers: on a fresh board of 16 pages, and for a page that is converted twice.

@@ -10,9 +10,9 @@ mod standing;
 
 pub use laws::{
     first_checks_answer, harts_keep_fitting, legal_histories_are_quiet, legal_histories_begin,
-    offers_are_allowed, one_entry_later, one_hart_plays_its_answers, others_untouched,
-    played_histories_are_legal, states_are_sound, steps_are_determined, still_rounds_are_last,
-    translations_are_usable, unbuilt_calls_are_refused, worked_examples,
+    offers_are_allowed, one_entry_later, others_untouched, played_histories_are_legal,
+    states_are_sound, steps_are_determined, still_rounds_are_last, translations_are_usable,
+    unbuilt_calls_are_refused, worked_examples,
 };
 pub use readings::{Place, Reading};
 pub use rules::{boundary_law, store_law};
