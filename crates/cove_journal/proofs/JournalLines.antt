@@ -25,7 +25,8 @@ use Rattle.cove_base.specs.declared.events.How.TheVariants.{Hit, Walk}
 use Rattle.cove_base.specs.declared.statuses.Reply.{Reply}
 use Rattle.cove_base.specs.declared.statuses.Status.{Status}
 use Rattle.cove_base.specs.declared.statuses.Status.TheVariants.{Success, Failed, NotSupported, InvalidParam, Denied, InvalidAddress, AlreadyAvailable, AlreadyStarted, AlreadyStopped}
-use Rattle.cove_model.specs.Reports.{act_text, ended_line, entry_line, event_text, exit_text, how_text, reply_text, spaced, word_text}
+use Rattle.cove_base.specs.EventWords.{act_text, exit_text, how_text, reply_text, spaced, word_text}
+use Rattle.cove_model.specs.Reports.{ended_line, entry_line, event_text}
 use Rattle.cove_journal.specs.Lines.{last_line_of}
 
 -- a space or a character after it

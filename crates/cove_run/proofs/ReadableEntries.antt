@@ -1,8 +1,8 @@
 -- Every entry of a legal history of a script that a text spells has a line, which names it.
 use Rattle.std.proofs.Common.{◌≡◌, ℕ, zero, suc, ◌+◌, ◌-◌, ◌*◌, ◌^◌, ◌<◌, ◌≤◌, Bool, true, false, ◌==◌, nat_le, nat_lt, List, [], ◌∷◌, ◌++◌, length, map, cond, filter, fold, ◌/◌, Option, Some, None, IsTrue, refl, sym, ap, subst, ◌∙◌, ⊎_elim, arith}
-use Rattle.std.specs.Prelude.{if◌then◌else◌, slice_get, slice_index, slice_index_or, slice_set}
+use Rattle.std.specs.Prelude.{if◌then◌else◌, unwrap_or, slice_get, slice_index, slice_index_or, slice_set}
+use Rattle.std.specs.Int.{from_le_bytes, w64}
 use Rattle.std.specs.List.{list_all, range_with_len}
-use Rattle.std.proofs.Math.Nat.{pow-succ'}
 use Rattle.std.proofs.lemmas.Bool.{and_from, and_parts, cases_lt, eq-eqb, or_left, leb-true, lt-ltb, ltb-true}
 use Rattle.std.proofs.lemmas.List.Folds.{list_all-append}
 use Rattle.std.proofs.lemmas.Option.{same_Some}
@@ -19,14 +19,15 @@ use Rattle.cove_base.specs.declared.scripts.Line.{Line}
 use Rattle.cove_base.specs.declared.scripts.Line.TheVariants as lines
 use Rattle.cove_base.specs.declared.scripts.ScriptLine.{ScriptLine}
 use Rattle.cove_base.specs.declared.statuses.Reply.{Reply}
+use Rattle.cove_base.specs.declared.statuses.Status.TheVariants.{Success}
 use Rattle.cove_journal.specs.Forms.{is_byte, is_event_shown, is_sized, is_word}
 use Rattle.cove_journal.specs.Journals.{is_readable}
-use Rattle.cove_model.specs.Effects.{answer_by, effect, reply_to, state_by, value_of}
+use Rattle.cove_model.specs.Effects.{effect, refusal, reply_to, state_by, value_of}
 use Rattle.cove_model.specs.Histories.{Legal, after}
 use Rattle.cove_model.specs.Owners.{Converting, Free, Given, Host, Owner, answered, change, converted, fenced, has, page_at, reclaimed, settled, stored, without, words_of, zeros}
-use Rattle.cove_model.specs.Refusals.{AllAnswered, AllFree, AllHost, Aligned, Check, Count, Inside, NoneShared, first_failing, refusal}
+use Rattle.cove_model.specs.Refusals.{AllAnswered, AllFree, AllHost, Aligned, Check, Count, Inside, NoneShared, first_failing}
 use Rattle.cove_model.specs.Sound.{IsSound}
-use Rattle.cove_model.specs.States.{State, byte_after, ended_by, from_bytes, harts_below, opening, opening_byte, opening_words, page_of, place_of}
+use Rattle.cove_model.specs.States.{State, byte_after, ended_by, harts_below, opening, opening_byte, opening_words, page_of, place_of}
 use Rattle.cove_model.specs.Steps.{Allows, Answers, asked, done}
 use Rattle.cove_model.proofs.AtTheEnd.{after_push, from_end, legal_front, legal_last}
 use Rattle.cove_model.proofs.Beginning.{Due, asked_line, due}
@@ -145,19 +146,17 @@ filled_fits (fill ∷ fills) addr before e b =
 opening_byte_fits : (fills : List Fill) (addr : ℕ) → list_all fill_fits fills ≡ true → opening_byte fills addr < 256
 opening_byte_fits fills addr e = ltb-true (opening_byte fills addr) 256 (filled_fits fills addr 0 e refl)
 
-bytes_fit : (f : ℕ → ℕ) → ((a : ℕ) → f a < 256) → (a n : ℕ) → from_bytes (map f (range_with_len a n)) < 256 ^ n
-bytes_fit f small a zero = omega arith
-bytes_fit f small a (suc n) =
-    let byte = small a in
-    let more = bytes_fit f small (a + 1) n in
-    let power : 256 ^ suc n ≡ 256 * 256 ^ n = pow-succ' 256 n in
-    omega (arith, byte, more, power)
+word_fits : (a b c d e f g h : ℕ) → a < 256 → b < 256 → c < 256 → d < 256 → e < 256 → f < 256 → g < 256 → h < 256 → from_le_bytes w64 (a ∷ b ∷ c ∷ d ∷ e ∷ f ∷ g ∷ h ∷ []) < 2 ^ 64
+word_fits a b c d e f g h la lb lc ld le lf lg lh = omega (arith, la, lb, lc, ld, le, lf, lg, lh)
 
-words_fit : (fills : List Fill) (p : ℕ) → list_all fill_fits fills ≡ true → (places : List ℕ) → are_words (map (λ i. from_bytes (map (opening_byte fills) (range_with_len (4096 * p + 8 * i) 8))) places) ≡ true
+bytes_fit : (f : ℕ → ℕ) → ((a : ℕ) → f a < 256) → (a : ℕ) → from_le_bytes w64 (map f (range_with_len a 8)) < 2 ^ 64
+bytes_fit f small a = word_fits _ _ _ _ _ _ _ _ (small _) (small _) (small _) (small _) (small _) (small _) (small _) (small _)
+
+words_fit : (fills : List Fill) (p : ℕ) → list_all fill_fits fills ≡ true → (places : List ℕ) → are_words (map (λ i. from_le_bytes w64 (map (opening_byte fills) (range_with_len (4096 * p + 8 * i) 8))) places) ≡ true
 words_fit fills p e [] = refl
 words_fit fills p e (i ∷ places) =
-    let word : from_bytes (map (opening_byte fills) (range_with_len (4096 * p + 8 * i) 8)) < 256 ^ 8 = bytes_fit (opening_byte fills) (λ a. opening_byte_fits fills a e) (4096 * p + 8 * i) 8 in
-    and_from _ _ (lt-ltb (from_bytes (map (opening_byte fills) (range_with_len (4096 * p + 8 * i) 8))) (2 ^ 64) (omega (arith, word))) (words_fit fills p e places)
+    let word = bytes_fit (opening_byte fills) (λ a. opening_byte_fits fills a e) (4096 * p + 8 * i) in
+    and_from _ _ (lt-ltb (from_le_bytes w64 (map (opening_byte fills) (range_with_len (4096 * p + 8 * i) 8))) (2 ^ 64) word) (words_fit fills p e places)
 
 opening_words_fit : (fills : List Fill) (p : ℕ) → list_all fill_fits fills ≡ true → are_words (opening_words fills p) ≡ true
 unfolding opening_words
@@ -174,6 +173,10 @@ opening_fits script e p = ⊎_elim
 value_is_zero : (S : State) (h : ℕ) (call : HostCall) → value_of S h call ≡ 0
 value_is_zero S h (Convert base n) = refl
 value_is_zero S h _ = refl
+
+-- an answer, where this is the refusal or there is none
+abbrev answer_by : Option Reply → (value : ℕ) → Reply
+answer_by refused value = unwrap_or refused (record { status = Success; value = value })
 
 checks_fit : (checks : List Check) (value : ℕ) → list_all (λ check. is_word check.value) checks ≡ true → is_word value ≡ true → is_word (answer_by (first_failing checks) value).value ≡ true
 checks_fit [] value all small = small
