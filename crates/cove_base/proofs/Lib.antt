@@ -1,4 +1,5 @@
 mod TextRows
 pub mod HartPlaceLemmas
+pub mod LineLinkLemmas
 pub mod ScriptPages
 pub mod StoreLemmas

@@ -4,6 +4,7 @@ pub mod Guards
 pub mod HartLines
 pub mod HartPlaces
 pub mod HartValues
+pub mod LineLinks
 pub mod Numbers
 pub mod PageWords
 pub mod Places

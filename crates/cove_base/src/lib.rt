@@ -11,6 +11,7 @@ mod numbers;
 mod places;
 mod quotes;
 mod ranges;
+mod script_lines;
 mod scripts;
 mod statuses;
 mod stores;
@@ -26,7 +27,7 @@ pub use limits::{
     ENTRY_LIMIT, FILE_LIMIT, FUEL_LIMIT, HART_LIMIT, KEY_LIMIT, PAGE_LIMIT, PHASE_LIMIT,
     QUOTE_LIMIT, RANGE_LIMIT, REGION_LIMIT, SCRIPT_LIMIT, SHARED_RUN_LIMIT, TVM_LIMIT, VCPU_LIMIT,
 };
-pub use lists::{Bytes, Fills, Items, Lines, Turns};
+pub use lists::{Bytes, Fills, Items, Turns};
 pub use numbers::{Gpn, HartId, NoMemory, Page, Role, TvmId};
 pub use places::{
     all_words, answered_word, count_word, epoch_word, hart_word, page_word, places_law, table_word,
@@ -34,6 +35,7 @@ pub use places::{
 };
 pub use quotes::Quote;
 pub use ranges::{PageRange, RangeFault, range_of};
+pub use script_lines::Lines;
 pub use scripts::{Fill, Line, Script, ScriptLine};
 pub use statuses::{Reply, Status};
 pub use stores::stores_law;

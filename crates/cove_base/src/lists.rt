@@ -2,7 +2,7 @@ ghost use Rattle.std.specs.Prelude.{◌≡◌, ◌<◌, ◌++◌, ◌↔◌, [],
 ghost use Rattle.std.specs.Option.{option_copied};
 
 use crate::numbers::NoMemory;
-use crate::scripts::{Fill, ScriptLine};
+use crate::scripts::Fill;
 use std::alloc::Global;
 use std::marker::Model;
 
@@ -20,9 +20,6 @@ pub type Turns = Items<u32>;
 
 /// The fills of a script, in order.
 pub type Fills = Items<Fill>;
-
-/// The lines of a script's harts, in order.
-pub type Lines = Items<ScriptLine>;
 
 impl<T> Model for Items<T> {
     ghost use Rattle.std.specs.Prelude.{List};

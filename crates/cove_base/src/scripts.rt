@@ -1,6 +1,7 @@
 use crate::calls::HostCall;
-use crate::lists::{Bytes, Fills, Lines, Turns};
+use crate::lists::{Bytes, Fills, Turns};
 use crate::numbers::HartId;
+use crate::script_lines::Lines;
 use std::marker::Model;
 
 /// What a hart is asked to do next. Addresses are in bytes; a load or a store moves 8 bytes, little-endian.

@@ -116,9 +116,8 @@ impl HartState {
         ensures place { IsPlace script.now self.new.hart.0 self.new.ended self.new.place }
         ensures ended { self.new ≡ record self.old { ended = self.old.ended + 1; place = self.new.place } }
     {
-        let _lines = script.lines.len();
         self.ended += 1;
-        self.place = next_place(script, self.hart, self.place + 1);
+        self.place = script.lines.following(self.place);
     }
 }
 
