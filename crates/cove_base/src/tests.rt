@@ -30,6 +30,28 @@ fn lists_grow(rt: HostRuntime) -> Result<(), Fail> {
     Ok(())
 }
 
+// A fence of a hart.
+fn fence(hart: u8) -> ScriptLine {
+    ScriptLine {
+        hart: HartId(hart),
+        phase: 0,
+        line: Line::Call(HostCall::GlobalFence),
+    }
+}
+
+#[test]
+fn a_line_is_linked_to_the_next_of_its_hart(rt: HostRuntime) -> Result<(), Fail> {
+    let mut lines = Lines::new(rt.alloc());
+    lines.push(fence(7))?;
+    lines.push(fence(255))?;
+    lines.push(fence(7))?;
+    assert_eq!(rt; lines.following(0), 2);
+    assert_eq!(rt; lines.following(1), 3);
+    assert_eq!(rt; lines.following(2), 3);
+    assert_eq!(rt; lines.get(1).copied(), Some(fence(255)));
+    Ok(())
+}
+
 #[test]
 fn a_history_has_its_room(rt: HostRuntime) -> Result<(), Fail> {
     let mut history = History::new(rt.alloc())?;
