@@ -7,5 +7,6 @@ abbrev pub accepts : List (String Global) → Bool
 accepts (word ∷ []) = bytes_eq (string_bytes word) (codes "sched")
 accepts words = false
 
+-- the command accepts the words
 abbrev pub IsAccepted : List (String Global) → Type 0
 IsAccepted words = IsTrue (accepts words)

@@ -18,10 +18,12 @@ pub data Owner : Type 0 where
   Free : Owner
   Given : (tvm : ℕ) (purpose : Purpose) → Owner
 
+-- the page is the host's
 abbrev pub is_host : Owner → Bool
 is_host (Host words) = true
 is_host owner = false
 
+-- the page is the monitor's, and may be given to a TVM or back to the host
 abbrev pub is_free : Owner → Bool
 is_free Free = true
 is_free owner = false
@@ -89,6 +91,7 @@ pub data Holder : Type 0 where
   TheMonitor : Holder
   OfTvm : (tvm : ℕ) → Holder
 
+-- who holds a page: on its way it is the host's yet
 abbrev pub holder : Owner → Holder
 holder (Host words) = TheHost
 holder (Converting held waiting words) = TheHost

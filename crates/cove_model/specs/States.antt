@@ -24,10 +24,11 @@ harts_below n = range_with_len 0 n
 abbrev pub ended_by : State → (hart : ℕ) → ℕ
 ended_by S hart = slice_index S.ended hart
 
--- the page of a byte address, and the place of its word there
+-- the page of a byte address
 abbrev pub page_of : (addr : ℕ) → ℕ
 page_of addr = addr / 4096
 
+-- the place of the word of a byte address in its page
 abbrev pub place_of : (addr : ℕ) → ℕ
 place_of addr = addr / 8 % 512
 

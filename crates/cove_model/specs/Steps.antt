@@ -25,10 +25,11 @@ abbrev pub IsDue : ScriptValue → State → (hart : ℕ) → Option Line → Ty
 IsDue script S h None = ⊥
 IsDue script S h (Some line) = offer script S h ≡ Next line
 
--- an access succeeds where the hart may use its page, and may fault where the page is not the host's
+-- an access may succeed where the hart may use its page
 abbrev pub MaySucceed : State → (hart addr : ℕ) → Type 0
 MaySucceed S h addr = may_use h (page_at S.pages (page_of addr)) ≡ true
 
+-- an access may fault where its page is not the host's
 abbrev pub MayFault : State → (addr : ℕ) → Type 0
 MayFault S addr = is_host (page_at S.pages (page_of addr)) ≡ false
 
