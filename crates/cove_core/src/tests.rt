@@ -188,8 +188,7 @@ fn first_difference(
         addr: 0x4000,
         bytes: filled,
     })?;
-    let mut played = Lines::new(alloc);
-    played.extend(lines)?;
+    let played = all_lines(alloc, lines)?;
     let mut taken = Turns::new(alloc);
     taken.extend(turns)?;
     let script = Script {
@@ -401,6 +400,17 @@ fn fences(alloc: Global, count: u32) -> Result<Script, NoMemory> {
         lines,
         turns: Turns::new(alloc),
     })
+}
+
+// A list of these lines.
+fn all_lines(alloc: Global, lines: &[ScriptLine]) -> Result<Lines, NoMemory>
+    ensures { IfOk result (λ all. all ≡ lines.now) }
+{
+    let mut all = Lines::new(alloc);
+    for line in lines {
+        all.push(*line)?;
+    }
+    Ok(all)
 }
 
 fn fence_lines(alloc: Global, count: u32) -> Result<Lines, NoMemory>
