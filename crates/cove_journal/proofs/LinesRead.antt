@@ -8,7 +8,7 @@ use Rattle.std.proofs.lemmas.List.{append-nil, append_assoc}
 use Rattle.std.proofs.lemmas.List.Folds.{flat_map-map}
 use Rattle.cove_base.specs.CallWords.{arguments, word_of}
 use Rattle.cove_base.specs.Numbers.{decimal_text, hex_text, natural_text, number_of, number_text}
-use Rattle.cove_base.specs.Statuses.{code_of}
+use Rattle.cove_base.specs.Statuses.{code_of, is_success}
 use Rattle.cove_base.specs.Text.{text_words}
 use Rattle.cove_base.specs.declared.calls.GuestAct.{GuestAct}
 use Rattle.cove_base.specs.declared.calls.GuestAct.TheVariants as acts
@@ -29,7 +29,7 @@ use Rattle.cove_model.specs.Reports.{entry_line, event_text}
 use Rattle.cove_text.proofs.JoinedWords as joined
 use Rattle.cove_text.proofs.Numerals.{number_of-natural_text, number_of-number_text}
 use Rattle.cove_journal.specs.Forms.{act_numbers, has_line, is_act_shown, is_byte, is_event_shown, is_exit_shown, is_fault_cause, is_sized, is_trap_cause, is_word}
-use Rattle.cove_journal.specs.Reading.{act_of, answered_of, asked_of, entry_of, event_of, fault_of, how_of, identified_of, is_success, load_of, memory_word_of, ranged_of, store_of, trap_of}
+use Rattle.cove_journal.specs.Reading.{act_of, answered_of, asked_of, entry_of, event_of, fault_of, how_of, identified_of, load_of, memory_word_of, ranged_of, store_of, trap_of}
 use Rattle.cove_journal.proofs.CallsRead.{answer_is_read, answer_is_words, answer_words, call_event_is_read, call_is_word, call_words, number_is_read, numbers_are_words}
 use Rattle.cove_journal.proofs.HexRead.{bytes_are_small, memory_word_is_no_fault, memory_word_is_read, quote_is_read, word_bytes_are_small}
 

@@ -19,7 +19,8 @@ use Rattle.cove_base.specs.declared.events.Event.TheVariants as events
 use Rattle.cove_base.specs.declared.statuses.Reply.{Reply}
 use Rattle.cove_base.specs.declared.statuses.Status.{Status}
 use Rattle.cove_journal.specs.Forms.{act_numbers, is_byte, is_sized, is_word}
-use Rattle.cove_journal.specs.Reading.{act_of, answer_of, answered_of, arguments_of, asked_of, call_event_of, entry_of, event_of, exec_of, exit_of, fetch_of, guest_of, how_of, identified_of, is_success, load_of, load_with, made_of, memory_word_of, quote_of, quoted_of, ranged_of, status_of, store_of, store_with}
+use Rattle.cove_base.specs.Statuses.{is_success}
+use Rattle.cove_journal.specs.Reading.{act_of, answer_of, answered_of, arguments_of, asked_of, call_event_of, entry_of, event_of, exec_of, exit_of, fetch_of, guest_of, how_of, identified_of, load_of, load_with, made_of, memory_word_of, quote_of, quoted_of, ranged_of, status_of, store_of, store_with}
 use Rattle.cove_journal.proofs.HexRead.{bytes_are_small}
 use Rattle.hex.specs.Hex.{◌>>=◌, decode_pairs, decode_sized, digit_or_error, hex_digit_value}
 use Rattle.hex.specs.declared.error.FromHexError.{FromHexError}

@@ -11,7 +11,7 @@ use Rattle.cove_base.specs.declared.events.Exit.{Exit}
 use Rattle.cove_base.specs.declared.events.Exit.TheVariants as exits
 use Rattle.cove_base.specs.declared.limits.TheConstants.{HART_LIMIT}
 use Rattle.cove_base.specs.declared.statuses.Status.{Status}
-use Rattle.cove_journal.specs.Reading.{is_success}
+use Rattle.cove_base.specs.Statuses.{is_success}
 
 -- the guest page faults: of an instruction, a load and a store
 abbrev pub is_fault_cause : ℕ → Bool

@@ -1,9 +1,10 @@
 -- The words of a line, read from left to right without a look at their spelling.
-use Rattle.std.specs.Prelude.{ℕ, ◌/◌, Bool, true, false, ◌==◌, nat_lt, List, [], ◌∷◌, ◌++◌, length, Option, Some, None, option_map, option_and_then, codes, bytes_eq, if◌then◌else◌}
+use Rattle.std.specs.Prelude.{ℕ, ◌/◌, ◌==◌, nat_lt, List, [], ◌∷◌, ◌++◌, length, Option, Some, None, option_map, option_and_then, codes, bytes_eq, if◌then◌else◌}
 use Rattle.std.specs.Int.{from_be_bytes, w64}
 use Rattle.std.specs.Result.{result_ok}
 use Rattle.cove_base.specs.CallWords.{call_of}
 use Rattle.cove_base.specs.Numbers.{number_of}
+use Rattle.cove_base.specs.Statuses.{is_success}
 use Rattle.cove_base.specs.declared.calls.GuestAct.{GuestAct}
 use Rattle.cove_base.specs.declared.calls.GuestAct.TheVariants as acts
 use Rattle.cove_base.specs.declared.calls.HostCall.{HostCall}
@@ -103,10 +104,6 @@ quote_of word = result_ok (decode_sized word 360)
 abbrev pub quoted_of : List (List ℕ) → Option Event
 quoted_of [] = None
 quoted_of (word ∷ words) = option_map (λ quote. events.Evidence quote) (quote_of word)
-
-abbrev pub is_success : Status → Bool
-is_success Success = true
-is_success status = false
 
 abbrev pub answered_of : GuestAct → Reply → List (List ℕ) → Option Event
 answered_of acts.Evidence reply words = if is_success reply.status then quoted_of words else Some (events.Guest acts.Evidence reply)

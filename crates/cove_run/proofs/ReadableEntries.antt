@@ -1,19 +1,19 @@
 -- Every entry of a legal history of a script that a text spells has a line, which names it.
-use Rattle.std.proofs.Common.{◌≡◌, ℕ, zero, suc, ◌+◌, ◌-◌, ◌*◌, ◌^◌, ◌<◌, ◌≤◌, Bool, true, false, ◌==◌, nat_le, nat_lt, List, [], ◌∷◌, ◌++◌, length, map, cond, filter, fold, ◌/◌, Option, Some, None, IsTrue, refl, sym, ap, subst, ◌∙◌, ⊎_elim, arith}
+use Rattle.std.proofs.Common.{◌≡◌, ℕ, zero, suc, ◌+◌, ◌-◌, ◌*◌, ◌^◌, ◌<◌, ◌≤◌, Bool, true, false, ◌==◌, nat_lt, List, [], ◌∷◌, ◌++◌, length, map, cond, filter, fold, ◌/◌, Option, Some, None, IsTrue, refl, sym, ap, subst, ◌∙◌, ⊎_elim, arith}
 use Rattle.std.specs.Prelude.{if◌then◌else◌, unwrap_or, slice_get, slice_index, slice_index_or, slice_set}
 use Rattle.std.specs.Int.{from_le_bytes, w64}
 use Rattle.std.specs.List.{list_all, range_with_len}
-use Rattle.std.proofs.lemmas.Bool.{and_from, and_parts, cases_lt, eq-eqb, or_left, leb-true, lt-ltb, ltb-true}
+use Rattle.std.proofs.lemmas.Bool.{and_from, and_parts, cases_lt, eq-eqb, or_left, lt-ltb, ltb-true}
 use Rattle.std.proofs.lemmas.List.Folds.{list_all-append}
 use Rattle.std.proofs.lemmas.Option.{same_Some}
 use Rattle.cove_base.specs.HartLines.{lines_of}
-use Rattle.cove_base.specs.Scripts.{ScriptValue, is_fill, is_script_line, is_within_limits, phases_rise_from}
+use Rattle.cove_base.specs.Scripts.{ScriptValue, is_within_limits}
 use Rattle.cove_base.specs.declared.calls.HostCall.{HostCall}
 use Rattle.cove_base.specs.declared.calls.HostCall.TheVariants.{Convert, GlobalFence, LocalFence, Reclaim}
 use Rattle.cove_base.specs.declared.events.Entry.{Entry}
 use Rattle.cove_base.specs.declared.events.Event.{Event}
 use Rattle.cove_base.specs.declared.events.Event.TheVariants as events
-use Rattle.cove_base.specs.declared.limits.TheConstants.{FILE_LIMIT, HART_LIMIT, KEY_LIMIT}
+use Rattle.cove_base.specs.declared.limits.TheConstants.{HART_LIMIT}
 use Rattle.cove_base.specs.declared.scripts.Fill.{Fill}
 use Rattle.cove_base.specs.declared.scripts.Line.{Line}
 use Rattle.cove_base.specs.declared.scripts.Line.TheVariants as lines
@@ -36,6 +36,7 @@ use Rattle.cove_model.proofs.Runs.{change_cases, opening_page, opening_past, pag
 use Rattle.cove_model.proofs.Soundness.{sound}
 use Rattle.cove_model.proofs.Usable.{after_harts, entry_on_board}
 use Rattle.cove_model.proofs.WithinLimits.{limits_of}
+use Rattle.cove_core.proofs.ScriptLimits.{board_limits}
 use Rattle.cove_journal.proofs.SizesRead.{index_fits}
 use Rattle.cove_run.proofs.ScriptNumbers.{IsMachineScript, fill_fits, line_fits, script_line_fits}
 
@@ -251,17 +252,7 @@ event_is_sized S h (events.Evidence quote) line few is fits answers ask small = 
 event_is_sized S h (events.Exit exit) line few is fits answers ask small = absurd answers
 
 few_harts : (script : ScriptValue) → IsTrue (is_within_limits script) → script.harts ≤ 8
-unfolding is_within_limits
-few_harts script e =
-    let turns = and_parts _ (list_all (λ hart. nat_lt hart script.harts) script.turns) e in
-    let phases = and_parts _ (phases_rise_from 0 script.lines) turns.0 in
-    let all = and_parts _ (list_all (is_script_line script.pages script.harts) script.lines) phases.0 in
-    let fills = and_parts _ (list_all (is_fill script.pages) script.fills) all.0 in
-    let key = and_parts _ (nat_le (length script.key) KEY_LIMIT) fills.0 in
-    let some = and_parts _ (nat_le 1 (length script.key)) key.0 in
-    let files = and_parts _ (nat_le script.files FILE_LIMIT) some.0 in
-    let harts = and_parts _ (nat_le script.harts HART_LIMIT) files.0 in
-    leb-true script.harts HART_LIMIT harts.1
+few_harts script e = (board_limits script e).harts
 
 -- ---- histories
 
