@@ -3,3 +3,4 @@ pub mod HartPlaceLemmas
 pub mod LineLinkLemmas
 pub mod ScriptPages
 pub mod StoreLemmas
+mod StoredEntryLemmas

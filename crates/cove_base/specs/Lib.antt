@@ -12,6 +12,7 @@ pub mod Ranges
 pub mod Rings
 pub mod Scripts
 pub mod Statuses
+pub mod StoredEntries
 pub mod Stores
 pub mod TableWords
 pub mod Text

@@ -5,6 +5,7 @@
 mod calls;
 mod events;
 mod faults;
+mod histories;
 mod limits;
 mod lists;
 mod numbers;
@@ -14,6 +15,7 @@ mod ranges;
 mod script_lines;
 mod scripts;
 mod statuses;
+mod stored;
 mod stores;
 #[cfg(test)]
 mod tests;
@@ -21,8 +23,9 @@ mod walks;
 mod words;
 
 pub use calls::{GuestAct, HostCall};
-pub use events::{Entry, Event, Exit, History, How, Walked};
+pub use events::{Entry, Event, Exit, How, Walked};
 pub use faults::{Kind, ScriptFault};
+pub use histories::History;
 pub use limits::{
     ENTRY_LIMIT, FILE_LIMIT, FUEL_LIMIT, HART_LIMIT, KEY_LIMIT, PAGE_LIMIT, PHASE_LIMIT,
     QUOTE_LIMIT, RANGE_LIMIT, REGION_LIMIT, SCRIPT_LIMIT, SHARED_RUN_LIMIT, TVM_LIMIT, VCPU_LIMIT,

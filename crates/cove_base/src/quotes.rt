@@ -41,6 +41,16 @@ impl Quote {
         self.len += 1;
     }
 
+    /// Another quote of the same bytes.
+    pub(crate) fn copy(&self) -> Self
+        ensures { result ≡ self.now }
+    {
+        Quote {
+            bytes: self.bytes,
+            len: self.len,
+        }
+    }
+
     /// The bytes.
     pub fn as_slice(&self) -> &[u8]
         ensures bytes { result.now ≡ self.now }

@@ -52,15 +52,29 @@ fn a_line_is_linked_to_the_next_of_its_hart(rt: HostRuntime) -> Result<(), Fail>
     Ok(())
 }
 
+// An entry of hart 1.
+fn entry(event: Event) -> Entry {
+    Entry {
+        hart: HartId(1),
+        event,
+    }
+}
+
 #[test]
 fn a_history_has_its_room(rt: HostRuntime) -> Result<(), Fail> {
     let mut history = History::new(rt.alloc())?;
     assert_eq!(rt; history.len(), 0);
-    history.push(Entry {
-        hart: HartId(1),
-        event: Event::Exec,
-    });
-    assert_eq!(rt; history.len(), 1);
+    let mut quote = Quote::new();
+    quote.push(7);
+    history.push(entry(Event::Exec));
+    history.push(entry(Event::Evidence { quote }));
+    assert_eq!(rt; history.len(), 2);
     assert!(rt; history.get(0).map(|entry| entry.hart) == Some(HartId(1)));
+    let bytes = match history.get(1).map(|entry| entry.event) {
+        Some(Event::Evidence { quote }) => quote.as_slice() == [7].as_slice(),
+        _ => false,
+    };
+    assert!(rt; bytes, "the quote's bytes");
+    assert!(rt; history.get(2).is_none());
     Ok(())
 }

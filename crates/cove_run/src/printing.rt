@@ -25,12 +25,15 @@ pub fn print_journal<K: Sink>(history: &History, is_whole: bool, sink: &mut K) -
         (journal (if is_whole then codes "end" else codes "limit") history.now)) }
 {
     let mut text = LineBuf::new();
-    let entries = history.as_slice();
-    for entry in entries {
-        put_line(&mut text, entry);
+    let entries = history.len();
+    for i in 0..entries {
+        let Some(entry) = history.get(i) else {
+            unreachable!()
+        };
+        put_line(&mut text, &entry);
         write_all(sink, text.as_slice())?;
     }
-    put_last(&mut text, entries.len() as u32, is_whole);
+    put_last(&mut text, entries as u32, is_whole);
     write_all(sink, text.as_slice())
 }
 
