@@ -1,6 +1,6 @@
 mod TextRows
 pub mod HartPlaceLemmas
 pub mod LineLinkLemmas
-pub mod ScriptPages
+pub mod ScriptLimits
 pub mod StoreLemmas
 mod StoredEntryLemmas

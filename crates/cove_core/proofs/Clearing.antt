@@ -21,7 +21,7 @@ use Rattle.cove_model.proofs.Members.{has_filled}
 use Rattle.cove_model.proofs.Playing.{was_longer}
 use Rattle.cove_model.proofs.Quiet.{legal_quiet}
 use Rattle.cove_model.proofs.Usable.{held_since, use_holder}
-use Rattle.cove_model.proofs.WithinLimits.{Limits}
+use Rattle.cove_base.proofs.ScriptLimits.{Limits}
 use Rattle.cove_model.specs.BoardRule.{FindsPage, HasFound}
 use Rattle.cove_model.specs.Cached.{IsQuietAt, WasHost}
 use Rattle.cove_model.specs.Fits.{Fits, UnusedFits, WalkFits, ring_of, walked_ring}

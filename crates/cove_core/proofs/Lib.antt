@@ -9,7 +9,6 @@ pub mod Entering
 pub mod Events
 pub mod Making
 pub mod Performing
-pub mod ScriptLimits
 pub mod Walking
 pub mod Opening
 pub mod Turning

@@ -28,7 +28,7 @@ use Rattle.cove_core.proofs.Clearing.{clear_other, clear_own}
 use Rattle.cove_core.proofs.Entering.{countable}
 use Rattle.cove_core.proofs.Events.{IsRightly, call_rightly, load_done, load_rightly, load_told, store_frames, store_rightly, store_stands, store_told}
 use Rattle.cove_core.proofs.Performing.{absent_now, reached_rightly, told_rightly}
-use Rattle.cove_core.proofs.ScriptLimits.{board_limits, line_page}
+use Rattle.cove_base.proofs.ScriptLimits.{limits_of, line_page, Limits}
 use Rattle.cove_hart.specs.Needs.{access_need}
 use Rattle.cove_hart.specs.declared.needs.Need.TheVariants as needs
 use Rattle.cove_mem.specs.Frames.{frame}
@@ -36,7 +36,6 @@ use Rattle.cove_model.proofs.AtTheEnd.{after_push, legal_push, tlb_same}
 use Rattle.cove_model.proofs.Beginning.{offered}
 use Rattle.cove_model.proofs.Fitting.{fits_other}
 use Rattle.cove_model.proofs.ToldProofs.{words_are_words}
-use Rattle.cove_model.proofs.WithinLimits.{Limits, limits_of}
 use Rattle.cove_model.specs.Fits.{Fits, ring_of}
 use Rattle.cove_model.specs.Histories.{Legal, after}
 use Rattle.cove_model.specs.LawfulStores.{AllowsLawful, IsLawful, MakesLawful}
@@ -67,16 +66,15 @@ module _ (script : ScriptValue) (within : IsTrue (is_within_limits script)) (wor
 
   page_words : length mon.history < ENTRY_LIMIT → (p : ℕ) → p < script.pages → IsPageWord (get_or words p 0)
   page_words room p below =
-      let some = (board_limits script within).some in
+      let some = limits.harts in
       let fences = kept.epoch in
       words_are_words script.pages script.harts words (after script mon.history) p below kept.stands (omega arith) (omega arith) (omega arith)
 
   reachable : length mon.history < ENTRY_LIMIT → (p : ℕ) → accessed_page l.line ≡ Some p → IsReachable words mon.ground.memory held p
   reachable room p asks =
       let below = line_page script within held.place l p at asks in
-      let board = board_limits script within in
-      let pages = board.pages in
-      let some = board.some in
+      let pages = limits.few_pages in
+      let some = limits.harts in
       let size = kept.stands.stands.size in
       let count = frame_count in
       let fences = kept.epoch in
@@ -90,12 +88,11 @@ module _ (script : ScriptValue) (within : IsTrue (is_within_limits script)) (wor
 
   pub can_do : length mon.history < ENTRY_LIMIT → (line : Line) → l.line ≡ line → CanDo script.pages script.harts words mon.ground.memory held line
   can_do room (lines.Call call) is =
-      let board = board_limits script within in
       let fences = kept.epoch in
       record {
-        page_limit = board.pages;
-        some_hart = omega (arith, board.some);
-        hart_limit = board.harts;
+        page_limit = limits.few_pages;
+        some_hart = omega (arith, limits.harts);
+        hart_limit = limits.few_harts;
         on_board = fits.on_board;
         size = kept.stands.stands.size;
         page_words = λ p below. page_words room p below;

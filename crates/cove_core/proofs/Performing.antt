@@ -28,7 +28,7 @@ use Rattle.cove_model.proofs.Fitting.{ring_filled, ring_finds_page}
 use Rattle.cove_model.proofs.Playing.{was_now}
 use Rattle.cove_model.proofs.ToldProofs.{words_tell_host}
 use Rattle.cove_model.proofs.Usable.{held_since, usable, use_host}
-use Rattle.cove_model.proofs.WithinLimits.{Limits}
+use Rattle.cove_base.proofs.ScriptLimits.{Limits}
 use Rattle.cove_model.specs.Cached.{WasHost}
 use Rattle.cove_model.specs.Cached.{Reaches as IsRight}
 use Rattle.cove_model.specs.Fits.{Fits, IsSought, UnusedFits, WalkFits, ring_of, walked_ring}

@@ -25,7 +25,7 @@ use Rattle.cove_base.specs.declared.scripts.ScriptLine.{ScriptLine}
 use Rattle.cove_base.specs.declared.walks.Noted.{Noted}
 use Rattle.cove_base.specs.declared.walks.Target.TheVariants as targets
 use Rattle.cove_core.proofs.Performing.{absent_now, not_true, reached_rightly, told_rightly, walk_is}
-use Rattle.cove_core.proofs.ScriptLimits.{board_limits, line_page}
+use Rattle.cove_base.proofs.ScriptLimits.{limits_of, line_page, Limits}
 use Rattle.cove_core.proofs.Walking.{sought, unwalked_now, wanted, wanted_below}
 use Rattle.cove_core.specs.Kept.{IsKept}
 use Rattle.cove_core.specs.Made.{IsMade, IsTold, IsWithinReach}
@@ -41,7 +41,6 @@ use Rattle.cove_model.proofs.AtTheEnd.{each_last}
 use Rattle.cove_model.proofs.Beginning.{due, offered}
 use Rattle.cove_model.proofs.Playing.{noted_other, noted_same, turn_full, turn_open}
 use Rattle.cove_model.proofs.ToldProofs.{words_are_words, words_tell_host}
-use Rattle.cove_model.proofs.WithinLimits.{Limits, limits_of}
 use Rattle.cove_model.specs.Cached.{IsReached}
 use Rattle.cove_model.specs.Cached.{Reaches as IsRight}
 use Rattle.cove_model.specs.Fits.{Fits}
@@ -345,8 +344,7 @@ idle_never script held l next idle = by_access (accessed_page l.line) (sym (ap (
 -- words that are kept have each page's word
 pub kept_words : (script : ScriptValue) → IsTrue (is_within_limits script) → (words : List ℕ) (mon : Mon) → IsKept script words mon → length mon.history < ENTRY_LIMIT → HavePageWords script.pages words
 kept_words script within words mon kept room p below =
-    let board = board_limits script within in
-    let some = board.some in
+    let some = (limits_of script within).harts in
     let size = kept.stands.stands.size in
     let fences = kept.epoch in
     (omega arith, words_are_words script.pages script.harts words (after script mon.history) p below kept.stands (omega arith) (omega arith) (omega arith))

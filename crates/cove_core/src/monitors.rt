@@ -87,7 +87,6 @@ impl Mon {
     /// The first hart that has a line of an earlier phase than this one left.
     pub fn first_behind(&self, script: &Script, phase: u32) -> Option<HartId>
         requires progress { ProgressStands script.now (after script.now self.now.history) self.now.progress }
-        requires few { script.now.harts < 256 }
         ensures some { IfSome result (λ hart. first_behind script.now (after script.now self.now.history) phase ≡ Some hart.0) }
         ensures none { IfNone result (first_behind script.now (after script.now self.now.history) phase ≡ None) }
     {
@@ -102,7 +101,6 @@ impl Mon {
     /// Whether no line is left.
     pub fn is_over(&self, script: &Script) -> bool
         requires progress { ProgressStands script.now (after script.now self.now.history) self.now.progress }
-        requires few { script.now.harts < 256 }
         ensures { IsTrue result ↔ IsOver script.now self.now.history }
     {
         for k in 0..script.harts {

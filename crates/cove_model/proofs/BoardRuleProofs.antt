@@ -25,7 +25,7 @@ use Rattle.cove_model.proofs.Playing.{was_longer, was_now}
 use Rattle.cove_model.proofs.StoreLawProofs.{stores_keep_answers, stores_keep_epoch, stores_keep_host, stores_keep_usable}
 use Rattle.cove_model.proofs.ToldProofs.{words_tell_host}
 use Rattle.cove_model.proofs.Usable.{held_since, usable}
-use Rattle.cove_model.proofs.WithinLimits.{Limits, limits_of}
+use Rattle.cove_base.proofs.ScriptLimits.{Limits, limits_of}
 use Rattle.cove_model.specs.BoardRule.{AreBounded, CountsKeepRule, FindsPage, FittingHartsLive, FittingHartsUse, HasFound, IsLive, IsMonitored, ListsKeepRule, LiveWalksWereRight, StoresKeepRule, UnusedLives, WalkLives}
 use Rattle.cove_model.specs.Cached.{IsReached, WasHost}
 use Rattle.cove_model.specs.Fits.{Fits, UnusedFits, WalkFits, ring_of, walked_ring}

@@ -12,7 +12,6 @@ pub mod Playing
 pub mod Fitting
 pub mod Progress
 pub mod Counting
-pub mod WithinLimits
 pub mod HartLists
 pub mod PageLaws
 pub mod StandLemmas

@@ -15,7 +15,7 @@ use Rattle.cove_model.proofs.Beginning.{legal_begins, over_follows}
 use Rattle.cove_model.proofs.Playing.{played_fits}
 use Rattle.cove_model.proofs.Progress.{played_ends, played_size}
 use Rattle.cove_model.proofs.Quiet.{legal_quiet}
-use Rattle.cove_model.proofs.WithinLimits.{limits_of}
+use Rattle.cove_base.proofs.ScriptLimits.{limits_of}
 use Rattle.cove_run.specs.Printing.{AreWritable}
 use Rattle.cove_run.specs.TopCall.{IsHistoryOf, history_of}
 

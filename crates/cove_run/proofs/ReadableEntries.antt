@@ -1,5 +1,5 @@
 -- Every entry of a legal history of a script that a text spells has a line, which names it.
-use Rattle.std.proofs.Common.{◌≡◌, ℕ, zero, suc, ◌+◌, ◌-◌, ◌*◌, ◌^◌, ◌<◌, ◌≤◌, Bool, true, false, ◌==◌, nat_lt, List, [], ◌∷◌, ◌++◌, length, map, cond, filter, fold, ◌/◌, Option, Some, None, IsTrue, refl, sym, ap, subst, ◌∙◌, ⊎_elim, arith}
+use Rattle.std.proofs.Common.{◌≡◌, ℕ, zero, suc, ◌+◌, ◌-◌, ◌*◌, ◌^◌, ◌<◌, ◌≤◌, Bool, true, false, ◌==◌, nat_lt, List, [], ◌∷◌, ◌++◌, map, cond, filter, fold, ◌/◌, Option, Some, None, IsTrue, refl, sym, ap, subst, ◌∙◌, ⊎_elim, arith}
 use Rattle.std.specs.Prelude.{if◌then◌else◌, unwrap_or, slice_get, slice_index, slice_index_or, slice_set}
 use Rattle.std.specs.Int.{from_le_bytes, w64}
 use Rattle.std.specs.List.{list_all, range_with_len}
@@ -35,8 +35,7 @@ use Rattle.cove_model.proofs.Members.{below_has}
 use Rattle.cove_model.proofs.Runs.{change_cases, opening_page, opening_past, page_map}
 use Rattle.cove_model.proofs.Soundness.{sound}
 use Rattle.cove_model.proofs.Usable.{after_harts, entry_on_board}
-use Rattle.cove_model.proofs.WithinLimits.{limits_of}
-use Rattle.cove_core.proofs.ScriptLimits.{board_limits}
+use Rattle.cove_base.proofs.ScriptLimits.{limits_of}
 use Rattle.cove_journal.proofs.SizesRead.{index_fits}
 use Rattle.cove_run.proofs.ScriptNumbers.{IsMachineScript, fill_fits, line_fits, script_line_fits}
 
@@ -252,7 +251,7 @@ event_is_sized S h (events.Evidence quote) line few is fits answers ask small = 
 event_is_sized S h (events.Exit exit) line few is fits answers ask small = absurd answers
 
 few_harts : (script : ScriptValue) → IsTrue (is_within_limits script) → script.harts ≤ 8
-few_harts script e = (board_limits script e).harts
+few_harts script e = (limits_of script e).few_harts
 
 -- ---- histories
 

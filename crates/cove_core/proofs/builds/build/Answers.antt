@@ -2,20 +2,20 @@ use Rattle.std.proofs.Common.{replicate, ap, ◌∙◌, arith}
 use Rattle.cove_base.specs.Places.{all_words}
 use Rattle.cove_base.specs.Scripts.{ScriptValue}
 use Rattle.cove_core.proofs.Building.{built_fresh}
-use Rattle.cove_core.proofs.ScriptLimits.{board_limits}
+use Rattle.cove_base.proofs.ScriptLimits.{limits_of}
 use Rattle.cove_core.proofs.builds.build.Goals as goal
 
 pub all_words-requires-clause-pages : goal.all_words-requires-clause-pages
 all_words-requires-clause-pages c =
     let pages = ap (λ (s : ScriptValue). s.pages) c.script.view_is in
-    let limits = board_limits c.args.script.now c.within_limits.ensures in
-    omega (arith, limits.pages, pages)
+    let limits = limits_of c.args.script.now c.within_limits.ensures in
+    omega (arith, limits.few_pages, pages)
 
 pub all_words-requires-clause-harts : goal.all_words-requires-clause-harts
 all_words-requires-clause-harts c =
     let harts = ap (λ (s : ScriptValue). s.harts) c.script.view_is in
-    let limits = board_limits c.args.script.now c.within_limits.ensures in
-    omega (arith, limits.harts, harts)
+    let limits = limits_of c.args.script.now c.within_limits.ensures in
+    omega (arith, limits.few_harts, harts)
 
 pub returns-clause-fresh : goal.returns-clause-fresh
 returns-clause-fresh c =

@@ -2,7 +2,7 @@ use Rattle.std.proofs.Common.{◌≡◌, ℕ, ◌+◌, ◌<◌, ◌≤◌, IsTru
 use Rattle.std.proofs.lemmas.List.{length-replicate, take_all}
 use Rattle.cove_base.specs.Scripts.{ScriptValue, is_fill}
 use Rattle.cove_core.proofs.FillLemmas.{fill_within, filled_stands, opening_more, show_same, show_zeros}
-use Rattle.cove_core.proofs.ScriptLimits.{board_limits}
+use Rattle.cove_base.proofs.ScriptLimits.{limits_of}
 use Rattle.cove_core.specs.Bytes.{FramesShow}
 use Rattle.cove_mem.specs.Frames.{zeros}
 use Rattle.cove_model.specs.States.{byte_after, opening_byte}
@@ -30,8 +30,8 @@ put_fill-requires-clause-within c =
 
 pub put_fill-requires-clause-limit : goal.put_fill-requires-clause-limit
 put_fill-requires-clause-limit c =
-    let limits = board_limits c.args.script.now c.within_limits.ensures in
-    omega (arith, limits.pages, c.loop-fill.invariant.size)
+    let limits = limits_of c.args.script.now c.within_limits.ensures in
+    omega (arith, limits.few_pages, c.loop-fill.invariant.size)
 
 pub loop-fill-preserved : goal.loop-fill-preserved
 loop-fill-preserved c =

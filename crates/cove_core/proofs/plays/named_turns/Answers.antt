@@ -5,7 +5,7 @@ use Rattle.cove_core.specs.Plays.{GoesOn}
 use Rattle.cove_model.specs.Played.{turn}
 use Rattle.std.proofs.lemmas.List.{take_all, take_more}
 use Rattle.cove_core.proofs.Rounds.{one_more, turn_within}
-use Rattle.cove_model.proofs.WithinLimits.{limits_of}
+use Rattle.cove_base.proofs.ScriptLimits.{limits_of}
 use Rattle.cove_core.proofs.plays.named_turns.Goals as goal
 
 pub turn_of-requires-clause-on_board : goal.turn_of-requires-clause-on_board

@@ -1,11 +1,7 @@
-use Rattle.std.proofs.Common.{◌↔◌, IsTrue, subst, arith}
+use Rattle.std.proofs.Common.{◌↔◌, IsTrue, subst}
 use Rattle.cove_model.specs.Played.{IsOver}
 use Rattle.cove_core.proofs.Rounds.{plays_all}
-use Rattle.cove_core.proofs.ScriptLimits.{board_limits}
 use Rattle.cove_core.proofs.plays.play.Goals as goal
-
-pub is_over-requires-clause-few : goal.is_over-requires-clause-few
-is_over-requires-clause-few c = omega (arith, (board_limits c.args.script.now c.within_limits.ensures).harts)
 
 pub returns-clause-history : goal.returns-clause-history
 returns-clause-history c =

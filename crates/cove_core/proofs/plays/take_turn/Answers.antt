@@ -1,6 +1,5 @@
 use Rattle.std.proofs.Common.{◌≡◌, Some, slice_get, sym, ◌∙◌, arith}
 use Rattle.cove_base.proofs.HartPlaceLemmas.{line_at_place}
-use Rattle.cove_core.proofs.ScriptLimits.{board_limits}
 use Rattle.cove_core.proofs.Turning.{behind_of, idle_never, kept_words, made_at, none_of, over_turned, walk_turned}
 use Rattle.cove_core.proofs.Walking.{prepared_for}
 use Rattle.cove_hart.specs.HartStates.{value_of}
@@ -9,9 +8,6 @@ use Rattle.cove_core.proofs.plays.take_turn.Goals as goal
 pub returns-in_default-clause-turned : goal.returns-in_default-clause-turned
 returns-in_default-clause-turned c =
     over_turned c.args.script.now c.args.mon.now.history (value_of c.args.hart.now) c.requires.fits (sym c.line_at.ensures.line ∙ c.in_default.is)
-
-pub first_behind-requires-clause-few : goal.first_behind-requires-clause-few
-first_behind-requires-clause-few c = omega (arith, (board_limits c.args.script.now c.line_at.ensures.within).harts)
 
 pub returns-then-is_some-clause-turned : goal.returns-then-is_some-clause-turned
 returns-then-is_some-clause-turned c =

@@ -2,7 +2,7 @@ use Rattle.std.proofs.Common.{◌≡◌, ◌+◌, length, set, get_or, sym, subs
 use Rattle.cove_base.specs.HartPlaces.{IsPlace}
 use Rattle.cove_base.specs.Places.{count_word}
 use Rattle.cove_core.proofs.Entering.{countable, ended_few, fits_after, kept_by}
-use Rattle.cove_core.proofs.ScriptLimits.{board_limits}
+use Rattle.cove_base.proofs.ScriptLimits.{limits_of}
 use Rattle.cove_hart.specs.HartStates.{value_of}
 use Rattle.cove_hart.specs.declared.states.HartState.{HartState}
 use Rattle.cove_model.specs.Fits.{Fits}
@@ -11,13 +11,13 @@ use Rattle.cove_core.proofs.steps.enter.Goals as goal
 pub count_word-requires-clause-pages : goal.count_word-requires-clause-pages
 count_word-requires-clause-pages g c =
     let same = c.requires.performed.board.pages in
-    let few = (board_limits c.args.script.now c.requires.limits).pages in
+    let few = (limits_of c.args.script.now c.requires.limits).few_pages in
     omega arith
 
 pub count_word-requires-clause-harts : goal.count_word-requires-clause-harts
 count_word-requires-clause-harts g c =
     let same = c.requires.performed.board.harts in
-    let few = (board_limits c.args.script.now c.requires.limits).harts in
+    let few = (limits_of c.args.script.now c.requires.limits).few_harts in
     omega arith
 
 pub commit-requires-clause-allowed : goal.commit-requires-clause-allowed

@@ -4,7 +4,6 @@ use Rattle.cove_base.specs.Guards.{guard_after}
 use Rattle.cove_base.specs.declared.events.Entry.{Entry}
 use Rattle.cove_base.specs.declared.limits.TheConstants.{ENTRY_LIMIT}
 use Rattle.cove_core.proofs.Making.{allows_on, behind_at, can_do, can_on, done_on, entry_from, has_next, last_entry, made, next_at, parts, performed, ready_at, some_last}
-use Rattle.cove_core.proofs.ScriptLimits.{board_limits}
 use Rattle.cove_core.specs.Made.{IsMade, IsPerformed}
 use Rattle.cove_hart.specs.HartStates.{value_of}
 use Rattle.cove_hart.specs.declared.states.HartState.{HartState}
@@ -15,9 +14,6 @@ use Rattle.cove_core.proofs.steps.event_step.Goals as goal
 pub unreachable-requires : goal.unreachable-requires
 unreachable-requires g c =
     has_next c.args.script.now c.args.mon.now.history (value_of c.args.hart.now) c.requires.fits c.requires.prepared (sym c.line_at.ensures.line ∙ c.in_default.is)
-
-pub first_behind-requires-clause-few : goal.first_behind-requires-clause-few
-first_behind-requires-clause-few g c = omega (arith, (board_limits c.args.script.now c.line_at.ensures.within).harts)
 
 pub returns-in-Some-first_behind-clause-ahead : goal.returns-in-Some-first_behind-clause-ahead
 returns-in-Some-first_behind-clause-ahead g c =

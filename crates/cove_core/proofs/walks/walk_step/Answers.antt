@@ -1,7 +1,7 @@
 use Rattle.std.proofs.Common.{◌≡◌, sym, subst, ap, ◌∙◌, arith}
 use Rattle.cove_base.specs.declared.walks.Target.{Target}
 use Rattle.cove_base.specs.declared.walks.Target.TheVariants.{Host}
-use Rattle.cove_core.proofs.ScriptLimits.{board_limits}
+use Rattle.cove_base.proofs.ScriptLimits.{limits_of}
 use Rattle.cove_core.proofs.Walking.{fits_walk, wanted, wanted_below}
 use Rattle.cove_hart.specs.HartStates.{value_of}
 use Rattle.cove_hart.specs.Needs.{next_need}
@@ -31,7 +31,7 @@ walk-walked-requires-clause-limit g c =
     let needed : next_need script held c.args.phase ≡ Walk (Host page) = sym c.next.ensures ∙ c.in-Walk-Host.is ∙ ap walk_to c.in-Walk-Host.field-0-is in
     let want = wanted script held c.args.phase page needed in
     let below = wanted_below script c.within_limits.ensures held page.0 c.requires.place want in
-    let few = (board_limits script c.within_limits.ensures).pages in
+    let few = (limits_of script c.within_limits.ensures).few_pages in
     omega arith
 
 pub walk-walked-requires-clause-word : goal.walk-walked-requires-clause-word

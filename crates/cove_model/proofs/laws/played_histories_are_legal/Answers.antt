@@ -4,7 +4,7 @@ use Rattle.cove_model.proofs.Counting.{played_over}
 use Rattle.cove_model.proofs.Playing.{played_fits}
 use Rattle.cove_model.proofs.Progress.{played_ends, played_size}
 use Rattle.cove_model.proofs.Quiet.{legal_quiet}
-use Rattle.cove_model.proofs.WithinLimits.{limits_of}
+use Rattle.cove_base.proofs.ScriptLimits.{limits_of}
 use Rattle.cove_model.specs.Played.{played}
 
 pub returns-clause-legal : goal.returns-clause-legal

@@ -1,7 +1,7 @@
 use Rattle.std.proofs.Common.{◌∙◌, slice_get, ap}
 use Rattle.cove_base.specs.Scripts.{ScriptValue}
 use Rattle.cove_base.proofs.HartPlaceLemmas.{line_at_place}
-use Rattle.cove_base.proofs.ScriptPages.{small_pages}
+use Rattle.cove_base.proofs.ScriptLimits.{small_pages}
 use Rattle.cove_hart.proofs.states.HartState.next_line.Goals as goal
 
 pub returns-clause-line : goal.returns-clause-line

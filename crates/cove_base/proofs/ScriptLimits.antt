@@ -1,0 +1,106 @@
+-- What the limits of a script say of its board, its lines and its turns.
+use Rattle.std.proofs.Common.{◌≡◌, ℕ, zero, suc, ◌*◌, ◌/◌, ◌%◌, ◌^◌, ◌<◌, ◌≤◌, Bool, true, ◌==◌, ◌&&◌, List, [], ◌∷◌, Option, None, Some, IfSome, IsTrue, nat_lt, nat_le, length, slice_get, refl, subst, arith}
+use Rattle.std.specs.List.{AllByRecursion, list_all}
+use Rattle.std.proofs.lemmas.Bool.{and_parts, ltb-true, leb-true}
+use Rattle.cove_base.specs.HartValues.{accessed_page}
+use Rattle.cove_base.specs.Scripts.{ScriptValue, is_within_limits, is_script_line, is_line_within, is_word_address, is_fill, phases_rise_from}
+use Rattle.cove_base.specs.declared.limits.TheConstants.{PAGE_LIMIT, HART_LIMIT, FILE_LIMIT, KEY_LIMIT, PHASE_LIMIT}
+use Rattle.cove_base.specs.declared.scripts.Line.{Line}
+use Rattle.cove_base.specs.declared.scripts.Line.TheVariants.{Call, Load, Store}
+use Rattle.cove_base.specs.declared.scripts.ScriptLine.{ScriptLine}
+
+all_from_test : {X : Type 0} (test : X → Bool) (xs : List X) → list_all test xs ≡ true → AllByRecursion (λ x. test x ≡ true) xs
+all_from_test test [] e = tt
+all_from_test test (x ∷ xs) e =
+    let p = and_parts (test x) (list_all test xs) e in
+    (p.0, all_from_test test xs p.1)
+
+all_weaker : {X : Type 0} (P Q : X → Type 0) (xs : List X) → ((x : X) → P x → Q x) → AllByRecursion P xs → AllByRecursion Q xs
+all_weaker P Q [] f all = tt
+all_weaker P Q (x ∷ xs) f all = (f x all.0, all_weaker P Q xs f all.1)
+
+-- the line of a hart of the board
+pub record IsWithin (pages harts : ℕ) (l : ScriptLine) : Type 0 where
+  pub hart : l.hart.0 < harts
+  pub line : is_line_within pages l.line ≡ true
+
+line_within : (pages harts : ℕ) (line : ScriptLine) → is_script_line pages harts line ≡ true → IsWithin pages harts line
+line_within pages harts line e =
+    let a = and_parts (nat_lt line.hart.0 harts && nat_lt line.phase PHASE_LIMIT) (is_line_within pages line.line) e in
+    let b = and_parts (nat_lt line.hart.0 harts) (nat_lt line.phase PHASE_LIMIT) a.0 in
+    record { hart = ltb-true line.hart.0 harts b.0; line = a.1 }
+
+-- a script is within its limits
+pub record Limits (script : ScriptValue) : Type 0 where
+  pub pages : 1 ≤ script.pages
+  pub few_pages : script.pages ≤ PAGE_LIMIT
+  pub harts : 1 ≤ script.harts
+  pub few_harts : script.harts ≤ HART_LIMIT
+  pub lines : AllByRecursion (IsWithin script.pages script.harts) script.lines
+  pub phases : phases_rise_from 0 script.lines ≡ true
+  pub turns : AllByRecursion (λ hart. hart < script.harts) script.turns
+
+pub limits_of : (script : ScriptValue) → IsTrue (is_within_limits script) → Limits script
+unfolding is_within_limits
+limits_of script e =
+    let turns = and_parts _ (list_all (λ hart. nat_lt hart script.harts) script.turns) e in
+    let phases = and_parts _ (phases_rise_from 0 script.lines) turns.0 in
+    let lines = and_parts _ (list_all (is_script_line script.pages script.harts) script.lines) phases.0 in
+    let fills = and_parts _ (list_all (is_fill script.pages) script.fills) lines.0 in
+    let key = and_parts _ (nat_le (length script.key) KEY_LIMIT) fills.0 in
+    let some = and_parts _ (nat_le 1 (length script.key)) key.0 in
+    let files = and_parts _ (nat_le script.files FILE_LIMIT) some.0 in
+    let harts = and_parts _ (nat_le script.harts HART_LIMIT) files.0 in
+    let hart = and_parts _ (nat_le 1 script.harts) harts.0 in
+    let pages = and_parts _ (nat_le script.pages PAGE_LIMIT) hart.0 in
+    record {
+      pages = leb-true _ _ pages.0;
+      few_pages = leb-true script.pages PAGE_LIMIT pages.1;
+      harts = leb-true _ _ hart.1;
+      few_harts = leb-true script.harts HART_LIMIT harts.1;
+      lines = all_weaker _ _ script.lines (line_within script.pages script.harts) (all_from_test (is_script_line script.pages script.harts) script.lines lines.1);
+      phases = phases.1;
+      turns = all_weaker _ _ script.turns (λ h t. ltb-true h script.harts t) (all_from_test (λ hart. nat_lt hart script.harts) script.turns turns.1);
+    }
+
+within_at : (pages harts : ℕ) (lines : List ScriptLine) (i : ℕ) (line : ScriptLine) → AllByRecursion (IsWithin pages harts) lines → slice_get lines i ≡ Some line → IsWithin pages harts line
+within_at pages harts [] i line all at = cc
+within_at pages harts (x ∷ xs) zero line all at =
+    let same : x ≡ line = cc in
+    subst (IsWithin pages harts) same all.0
+within_at pages harts (x ∷ xs) (suc i) line all at = within_at pages harts xs i line all.1 at
+
+word_within : (pages addr : ℕ) → is_word_address pages addr ≡ true → addr / 4096 < pages
+word_within pages addr word =
+    let below = ltb-true addr (4096 * pages) (and_parts (addr % 8 == 0) (nat_lt addr (4096 * pages)) word).1 in
+    omega arith
+
+page_within : (pages : ℕ) (line : Line) (p : ℕ) → is_line_within pages line ≡ true → accessed_page line ≡ Some p → p < pages
+page_within pages (Call call) p within asks = cc
+page_within pages (Load addr) p within asks =
+    let same : addr / 4096 ≡ p = cc in
+    subst (λ q. q < pages) same (word_within pages addr within)
+page_within pages (Store addr value) p within asks =
+    let same : addr / 4096 ≡ p = cc in
+    subst (λ q. q < pages) same (word_within pages addr within)
+
+-- the page of a line of the script is one of the board
+pub line_page : (script : ScriptValue) → IsTrue (is_within_limits script) → (i : ℕ) (line : ScriptLine) (p : ℕ) → slice_get script.lines i ≡ Some line → accessed_page line.line ≡ Some p → p < script.pages
+line_page script within i line p at asks =
+    page_within script.pages line.line p (within_at script.pages script.harts script.lines i line (limits_of script within).lines at).line asks
+
+-- the page of an access of a script has a number of 32 bits
+pub small_pages : (script : ScriptValue) → IsTrue (is_within_limits script) → (i : ℕ)
+    → IfSome (slice_get script.lines i) (λ line. IfSome (accessed_page line.line) (λ page. page < 2 ^ 32))
+small_pages script within i = of_line (slice_get script.lines i) refl
+  where
+    of_page : (line : ScriptLine) (page : Option ℕ) → slice_get script.lines i ≡ Some line → accessed_page line.line ≡ page → IfSome page (λ page. page < 2 ^ 32)
+    of_page line None at asks = tt
+    of_page line (Some page) at asks =
+        let on_board : page < script.pages = line_page script within i line page at asks in
+        let few = (limits_of script within).few_pages in
+        omega arith
+
+    of_line : (line : Option ScriptLine) → slice_get script.lines i ≡ line → IfSome line (λ l. IfSome (accessed_page l.line) (λ page. page < 2 ^ 32))
+    of_line None at = tt
+    of_line (Some line) at = of_page line (accessed_page line.line) at refl
