@@ -29,6 +29,7 @@ pub use histories::History;
 pub use limits::{
     ENTRY_LIMIT, FILE_LIMIT, FUEL_LIMIT, HART_LIMIT, KEY_LIMIT, PAGE_LIMIT, PHASE_LIMIT,
     QUOTE_LIMIT, RANGE_LIMIT, REGION_LIMIT, SCRIPT_LIMIT, SHARED_RUN_LIMIT, TVM_LIMIT, VCPU_LIMIT,
+    limits_law,
 };
 pub use lists::{Bytes, Fills, Items, Turns};
 pub use numbers::{Gpn, HartId, NoMemory, Page, Role, TvmId};

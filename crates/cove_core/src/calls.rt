@@ -28,7 +28,26 @@ pub fn call<W: Words>(w: &mut W, g: &mut Ground, h: HartId, c: HostCall) -> Repl
         HostCall::GlobalFence => global_fence(w, g, h),
         HostCall::LocalFence => local_fence(w, g, h),
         HostCall::Reclaim { base, n } => reclaim_pages(w, g, h, base, n),
-        _ => refused(Status::NotSupported),
+        HostCall::Create { .. }
+        | HostCall::Region { .. }
+        | HostCall::Tables { .. }
+        | HostCall::Measured { .. }
+        | HostCall::Vcpu { .. }
+        | HostCall::Finalize { .. }
+        | HostCall::Zero { .. }
+        | HostCall::Shared { .. }
+        | HostCall::Run { .. }
+        | HostCall::Invalidate { .. }
+        | HostCall::TvmFence { .. }
+        | HostCall::Validate { .. }
+        | HostCall::Remove { .. }
+        | HostCall::Destroy { .. }
+        | HostCall::Kick { .. }
+        | HostCall::Info
+        | HostCall::Bind { .. }
+        | HostCall::Unbind { .. }
+        | HostCall::Unbound { .. }
+        | HostCall::Inject { .. } => refused(Status::NotSupported),
     }
 }
 
