@@ -3,4 +3,4 @@ pub mod HartPlaceLemmas
 pub mod LineLinkLemmas
 pub mod ScriptLimits
 pub mod StoreLemmas
-mod StoredEntryLemmas
+mod CompactEntryLemmas

@@ -9,12 +9,14 @@ use Rattle.cove_base.specs.declared.scripts.Line.{Line}
 use Rattle.cove_base.specs.declared.scripts.Line.TheVariants.{Call, Load, Store}
 use Rattle.cove_base.specs.declared.scripts.ScriptLine.{ScriptLine}
 
+-- each item passes a test that the list passes
 all_from_test : {X : Type 0} (test : X → Bool) (xs : List X) → list_all test xs ≡ true → AllByRecursion (λ x. test x ≡ true) xs
 all_from_test test [] e = tt
 all_from_test test (x ∷ xs) e =
     let p = and_parts (test x) (list_all test xs) e in
     (p.0, all_from_test test xs p.1)
 
+-- what each item gives, all give
 all_weaker : {X : Type 0} (P Q : X → Type 0) (xs : List X) → ((x : X) → P x → Q x) → AllByRecursion P xs → AllByRecursion Q xs
 all_weaker P Q [] f all = tt
 all_weaker P Q (x ∷ xs) f all = (f x all.0, all_weaker P Q xs f all.1)
@@ -24,6 +26,7 @@ pub record IsWithin (pages harts : ℕ) (l : ScriptLine) : Type 0 where
   pub hart : l.hart.0 < harts
   pub line : is_line_within pages l.line ≡ true
 
+-- a line that passes the test of a script's lines
 line_within : (pages harts : ℕ) (line : ScriptLine) → is_script_line pages harts line ≡ true → IsWithin pages harts line
 line_within pages harts line e =
     let a = and_parts (nat_lt line.hart.0 harts && nat_lt line.phase PHASE_LIMIT) (is_line_within pages line.line) e in
@@ -32,14 +35,16 @@ line_within pages harts line e =
 
 -- a script is within its limits
 pub record Limits (script : ScriptValue) : Type 0 where
-  pub pages : 1 ≤ script.pages
+  pub some_pages : 1 ≤ script.pages
   pub few_pages : script.pages ≤ PAGE_LIMIT
-  pub harts : 1 ≤ script.harts
+  pub some_harts : 1 ≤ script.harts
   pub few_harts : script.harts ≤ HART_LIMIT
+  pub fills : list_all (is_fill script.pages) script.fills ≡ true
   pub lines : AllByRecursion (IsWithin script.pages script.harts) script.lines
   pub phases : phases_rise_from 0 script.lines ≡ true
   pub turns : AllByRecursion (λ hart. hart < script.harts) script.turns
 
+-- the limits, from the test that a script passes
 pub limits_of : (script : ScriptValue) → IsTrue (is_within_limits script) → Limits script
 unfolding is_within_limits
 limits_of script e =
@@ -54,15 +59,17 @@ limits_of script e =
     let hart = and_parts _ (nat_le 1 script.harts) harts.0 in
     let pages = and_parts _ (nat_le script.pages PAGE_LIMIT) hart.0 in
     record {
-      pages = leb-true _ _ pages.0;
+      some_pages = leb-true _ _ pages.0;
       few_pages = leb-true script.pages PAGE_LIMIT pages.1;
-      harts = leb-true _ _ hart.1;
+      some_harts = leb-true _ _ hart.1;
       few_harts = leb-true script.harts HART_LIMIT harts.1;
+      fills = fills.1;
       lines = all_weaker _ _ script.lines (line_within script.pages script.harts) (all_from_test (is_script_line script.pages script.harts) script.lines lines.1);
       phases = phases.1;
       turns = all_weaker _ _ script.turns (λ h t. ltb-true h script.harts t) (all_from_test (λ hart. nat_lt hart script.harts) script.turns turns.1);
     }
 
+-- the line at a place
 within_at : (pages harts : ℕ) (lines : List ScriptLine) (i : ℕ) (line : ScriptLine) → AllByRecursion (IsWithin pages harts) lines → slice_get lines i ≡ Some line → IsWithin pages harts line
 within_at pages harts [] i line all at = cc
 within_at pages harts (x ∷ xs) zero line all at =
@@ -70,11 +77,13 @@ within_at pages harts (x ∷ xs) zero line all at =
     subst (IsWithin pages harts) same all.0
 within_at pages harts (x ∷ xs) (suc i) line all at = within_at pages harts xs i line all.1 at
 
+-- the page of a word of the board
 word_within : (pages addr : ℕ) → is_word_address pages addr ≡ true → addr / 4096 < pages
 word_within pages addr word =
     let below = ltb-true addr (4096 * pages) (and_parts (addr % 8 == 0) (nat_lt addr (4096 * pages)) word).1 in
     omega arith
 
+-- the page of an access that is within the board
 page_within : (pages : ℕ) (line : Line) (p : ℕ) → is_line_within pages line ≡ true → accessed_page line ≡ Some p → p < pages
 page_within pages (Call call) p within asks = cc
 page_within pages (Load addr) p within asks =

@@ -1,4 +1,5 @@
 pub mod CallWords
+pub mod CompactEntries
 pub mod EventWords
 pub mod Guards
 pub mod HartLines
@@ -12,7 +13,6 @@ pub mod Ranges
 pub mod Rings
 pub mod Scripts
 pub mod Statuses
-pub mod StoredEntries
 pub mod Stores
 pub mod TableWords
 pub mod Text

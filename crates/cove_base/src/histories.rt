@@ -1,18 +1,18 @@
 ghost use Rattle.std.specs.Prelude.{◌≡◌, ◌<◌, ◌++◌, [], ◌∷◌, length, IfOk, slice_get};
 
+use crate::compact::{CompactEntry, compact, whole};
 use crate::events::Entry;
 use crate::limits::ENTRY_LIMIT;
 use crate::numbers::NoMemory;
 use crate::quotes::Quote;
-use crate::stored::{StoredEntry, shown, store};
 use std::alloc::Global;
 use std::marker::Model;
 
-/// The entries that were made, oldest first. Its room is taken at once. Quotes stand apart from the entries that show
-/// them, so that the other entries are small.
+/// The entries that were made, oldest first. All room is taken by `new`. The bytes of quotes stand in a list of their
+/// own, so that an entry without one is small.
 #[derive(Drop)]
 pub struct History {
-    entries: Vec<StoredEntry>,
+    entries: Vec<CompactEntry>,
     quotes: Vec<Quote>,
 }
 
@@ -20,13 +20,13 @@ impl Model for History {
     ghost use Rattle.std.specs.Prelude.{List, map};
     ghost use Rattle.std.specs.Vec.{vec_capacity};
     ghost use Rattle.cove_base.specs.declared.events.Entry.{Entry};
-    ghost use Rattle.cove_base.specs.StoredEntries.{entry_of, IsHistory};
+    ghost use Rattle.cove_base.specs.CompactEntries.{entry_of, IsCompact};
 
     ghost Value = { List Entry };
 
     ghost view = { λ a. map (entry_of a.quotes.items) a.entries.items };
 
-    ghost invariant = { λ a. IsHistory a.entries.items a.quotes.items (vec_capacity a.entries) (vec_capacity a.quotes) };
+    ghost invariant = { λ a. IsCompact a.entries.items a.quotes.items (vec_capacity a.entries) (vec_capacity a.quotes) };
 }
 
 impl History {
@@ -51,10 +51,10 @@ impl History {
     pub fn get(&self, i: usize) -> Option<Entry>
         ensures { result ≡ slice_get self.now i }
     {
-        let stored = self.entries.as_slice().get(i)?;
+        let entry = self.entries.as_slice().get(i)?;
         Some(Entry {
-            hart: stored.hart,
-            event: shown(self.quotes.as_slice(), &stored.event),
+            hart: entry.hart,
+            event: whole(self.quotes.as_slice(), &entry.event),
         })
     }
 
@@ -63,14 +63,10 @@ impl History {
         requires { length self.old < ENTRY_LIMIT }
         ensures { self.new ≡ self.old ++ item ∷ [] }
     {
-        let event = store(&mut self.quotes, item.event);
-        let entry = StoredEntry {
+        let event = compact(&mut self.quotes, item.event);
+        self.entries.push_reserved(CompactEntry {
             hart: item.hart,
             event,
-        };
-        match self.entries.push(entry) {
-            Ok(()) => {}
-            Err(_) => unreachable!(),
-        }
+        });
     }
 }

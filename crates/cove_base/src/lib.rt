@@ -3,6 +3,7 @@
 //! scripts, with the limits of each. Every other crate stands on this one.
 
 mod calls;
+mod compact;
 mod events;
 mod faults;
 mod histories;
@@ -15,7 +16,6 @@ mod ranges;
 mod script_lines;
 mod scripts;
 mod statuses;
-mod stored;
 mod stores;
 #[cfg(test)]
 mod tests;

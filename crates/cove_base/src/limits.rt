@@ -42,11 +42,13 @@ pub const QUOTE_LIMIT: usize = 512;
 /// Every phase of a script's line is below this number.
 pub const PHASE_LIMIT: u32 = 1_048_576;
 
-/// The law of the limits, which runs no code: they are the specified numbers.
+/// The law of the limits, which runs no code: the number that each of them is.
 pub fn limits_law()
-    ensures board { (PAGE_LIMIT ≡ 1024) × (HART_LIMIT ≡ 8) × (FILE_LIMIT ≡ 7) }
-    ensures tvms { (TVM_LIMIT ≡ 16) × (VCPU_LIMIT ≡ 4) × (REGION_LIMIT ≡ 8) × (SHARED_RUN_LIMIT ≡ 16) }
+    ensures boards { (PAGE_LIMIT ≡ 1024) × (HART_LIMIT ≡ 8) × (FILE_LIMIT ≡ 7) }
+    ensures tvms { (TVM_LIMIT ≡ 16) × (VCPU_LIMIT ≡ 4) }
+    ensures guests { (REGION_LIMIT ≡ 8) × (SHARED_RUN_LIMIT ≡ 16) }
     ensures calls { (RANGE_LIMIT ≡ 16) × (FUEL_LIMIT ≡ 4096) }
-    ensures texts { (SCRIPT_LIMIT ≡ 1048576) × (PHASE_LIMIT ≡ 1048576) × (KEY_LIMIT ≡ 128) × (QUOTE_LIMIT ≡ 512) }
+    ensures bytes { (SCRIPT_LIMIT ≡ 1048576) × (KEY_LIMIT ≡ 128) × (QUOTE_LIMIT ≡ 512) }
+    ensures phases { PHASE_LIMIT ≡ 1048576 }
     ensures entries { ENTRY_LIMIT ≡ 100000 }
 {}

@@ -41,7 +41,7 @@ impl Quote {
         self.len += 1;
     }
 
-    /// Another quote of the same bytes.
+    /// A copy. A quote is not `Copy`, since its view forgets the bytes past its length.
     pub(crate) fn copy(&self) -> Self
         ensures { result ≡ self.now }
     {

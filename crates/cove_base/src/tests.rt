@@ -61,7 +61,7 @@ fn entry(event: Event) -> Entry {
 }
 
 #[test]
-fn a_history_has_its_room(rt: HostRuntime) -> Result<(), Fail> {
+fn a_history_shows_its_entries(rt: HostRuntime) -> Result<(), Fail> {
     let mut history = History::new(rt.alloc())?;
     assert_eq!(rt; history.len(), 0);
     let mut quote = Quote::new();
@@ -70,11 +70,11 @@ fn a_history_has_its_room(rt: HostRuntime) -> Result<(), Fail> {
     history.push(entry(Event::Evidence { quote }));
     assert_eq!(rt; history.len(), 2);
     assert!(rt; history.get(0).map(|entry| entry.hart) == Some(HartId(1)));
-    let bytes = match history.get(1).map(|entry| entry.event) {
+    let is_kept = match history.get(1).map(|entry| entry.event) {
         Some(Event::Evidence { quote }) => quote.as_slice() == [7].as_slice(),
         _ => false,
     };
-    assert!(rt; bytes, "the quote's bytes");
+    assert!(rt; is_kept, "the quote");
     assert!(rt; history.get(2).is_none());
     Ok(())
 }

@@ -1,6 +1,7 @@
 -- No ring names a page that an entry gave to another.
 use Rattle.std.proofs.Common.{◌≡◌, ◌≢◌, ◌<◌, ℕ, Bool, true, false, ◌||◌, List, [], ◌∷◌, ◌++◌, Option, None, Some, refl, sym, subst, ap, ◌∙◌, ⊎_elim}
 use Rattle.std.proofs.lemmas.Bool.{false≢true}
+use Rattle.cove_base.proofs.ScriptLimits.{Limits}
 use Rattle.cove_base.specs.HartValues.{HartValue, hosts_after}
 use Rattle.cove_base.specs.Rings.{found}
 use Rattle.cove_base.specs.Rings.{filled as ring_with}
@@ -21,7 +22,6 @@ use Rattle.cove_model.proofs.Members.{has_filled}
 use Rattle.cove_model.proofs.Playing.{was_longer}
 use Rattle.cove_model.proofs.Quiet.{legal_quiet}
 use Rattle.cove_model.proofs.Usable.{held_since, use_holder}
-use Rattle.cove_base.proofs.ScriptLimits.{Limits}
 use Rattle.cove_model.specs.BoardRule.{FindsPage, HasFound}
 use Rattle.cove_model.specs.Cached.{IsQuietAt, WasHost}
 use Rattle.cove_model.specs.Fits.{Fits, UnusedFits, WalkFits, ring_of, walked_ring}

@@ -8,7 +8,8 @@ use Rattle.std.proofs.lemmas.List.Sums.{fold-append}
 use Rattle.std.proofs.lemmas.List.FromFn.{get_or-map-range_with_len, length-map-range_with_len}
 use Rattle.std.proofs.lemmas.Nat.{le_bytes_8}
 use Rattle.std.specs.List.{list_all, range_with_len}
-use Rattle.cove_base.specs.Scripts.{ScriptValue, is_fill, is_script_line, is_within_limits, phases_rise_from}
+use Rattle.cove_base.proofs.ScriptLimits.{limits_of}
+use Rattle.cove_base.specs.Scripts.{ScriptValue, is_fill, is_within_limits}
 use Rattle.cove_base.specs.declared.scripts.Fill.{Fill}
 use Rattle.cove_core.specs.Bytes.{FramesShow, with_byte_at}
 use Rattle.cove_mem.specs.Frames.{frame, with_word, zeros}
@@ -201,13 +202,7 @@ is_fill_at pages (x ∷ xs) (suc i) d all below = is_fill_at pages xs i d (and_p
 
 -- each fill of a script is within its memory
 pub fill_within : (script : ScriptValue) → IsTrue (is_within_limits script) → (i : ℕ) (d : Fill) → i < length script.fills → IsTrue (is_fill script.pages (get_or script.fills i d))
-unfolding is_within_limits
-fill_within script within i d below =
-    let turns = and_parts _ (list_all (λ hart. nat_lt hart script.harts) script.turns) within in
-    let phases = and_parts _ (phases_rise_from 0 script.lines) turns.0 in
-    let lines = and_parts _ (list_all (is_script_line script.pages script.harts) script.lines) phases.0 in
-    let fills = and_parts _ (list_all (is_fill script.pages) script.fills) lines.0 in
-    is_fill_at script.pages script.fills i d fills.1 below
+fill_within script within i d below = is_fill_at script.pages script.fills i d (limits_of script within).fills below
 
 -- the bounds of a fill
 pub fill_ends : (pages : ℕ) (fill : Fill) → IsTrue (is_fill pages fill) → fill.addr + length fill.bytes ≤ 4096 * pages

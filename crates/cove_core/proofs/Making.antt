@@ -3,6 +3,7 @@ use Rattle.std.proofs.Common.{◌≡◌, ℕ, zero, suc, ◌+◌, ◌<◌, ◌�
 use Rattle.std.proofs.lemmas.Option.{none-some, same_Some}
 use Rattle.std.proofs.lemmas.List.{length_push}
 use Rattle.cove_base.proofs.HartPlaceLemmas.{line_at_place}
+use Rattle.cove_base.proofs.ScriptLimits.{limits_of, line_page, Limits}
 use Rattle.cove_base.specs.declared.numbers.HartId.{HartId}
 use Rattle.cove_base.specs.HartLines.{next_line}
 use Rattle.cove_base.specs.HartValues.{HartValue, accessed_page}
@@ -28,7 +29,6 @@ use Rattle.cove_core.proofs.Clearing.{clear_other, clear_own}
 use Rattle.cove_core.proofs.Entering.{countable}
 use Rattle.cove_core.proofs.Events.{IsRightly, call_rightly, load_done, load_rightly, load_told, store_frames, store_rightly, store_stands, store_told}
 use Rattle.cove_core.proofs.Performing.{absent_now, reached_rightly, told_rightly}
-use Rattle.cove_base.proofs.ScriptLimits.{limits_of, line_page, Limits}
 use Rattle.cove_hart.specs.Needs.{access_need}
 use Rattle.cove_hart.specs.declared.needs.Need.TheVariants as needs
 use Rattle.cove_mem.specs.Frames.{frame}
@@ -66,7 +66,7 @@ module _ (script : ScriptValue) (within : IsTrue (is_within_limits script)) (wor
 
   page_words : length mon.history < ENTRY_LIMIT → (p : ℕ) → p < script.pages → IsPageWord (get_or words p 0)
   page_words room p below =
-      let some = limits.harts in
+      let some = limits.some_harts in
       let fences = kept.epoch in
       words_are_words script.pages script.harts words (after script mon.history) p below kept.stands (omega arith) (omega arith) (omega arith)
 
@@ -74,7 +74,7 @@ module _ (script : ScriptValue) (within : IsTrue (is_within_limits script)) (wor
   reachable room p asks =
       let below = line_page script within held.place l p at asks in
       let pages = limits.few_pages in
-      let some = limits.harts in
+      let some = limits.some_harts in
       let size = kept.stands.stands.size in
       let count = frame_count in
       let fences = kept.epoch in
@@ -91,7 +91,7 @@ module _ (script : ScriptValue) (within : IsTrue (is_within_limits script)) (wor
       let fences = kept.epoch in
       record {
         page_limit = limits.few_pages;
-        some_hart = omega (arith, limits.harts);
+        some_hart = omega (arith, limits.some_harts);
         hart_limit = limits.few_harts;
         on_board = fits.on_board;
         size = kept.stands.stands.size;

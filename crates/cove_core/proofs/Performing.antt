@@ -4,6 +4,7 @@ use Rattle.std.proofs.lemmas.Bool.{false≢true, or_left, or_right}
 use Rattle.std.proofs.lemmas.List.{length_push}
 use Rattle.cove_core.specs.Made.{IsWithinReach}
 use Rattle.std.proofs.lemmas.Option.{same_Some}
+use Rattle.cove_base.proofs.ScriptLimits.{Limits}
 use Rattle.cove_base.specs.HartLines.{next_line}
 use Rattle.cove_base.specs.HartValues.{HartValue, accessed_page, has_walked_to, hosts_after}
 use Rattle.cove_base.specs.Rings.{found, ring_room}
@@ -28,7 +29,6 @@ use Rattle.cove_model.proofs.Fitting.{ring_filled, ring_finds_page}
 use Rattle.cove_model.proofs.Playing.{was_now}
 use Rattle.cove_model.proofs.ToldProofs.{words_tell_host}
 use Rattle.cove_model.proofs.Usable.{held_since, usable, use_host}
-use Rattle.cove_base.proofs.ScriptLimits.{Limits}
 use Rattle.cove_model.specs.Cached.{WasHost}
 use Rattle.cove_model.specs.Cached.{Reaches as IsRight}
 use Rattle.cove_model.specs.Fits.{Fits, IsSought, UnusedFits, WalkFits, ring_of, walked_ring}

@@ -3,6 +3,7 @@ use Rattle.std.proofs.Common.{◌≡◌, ℕ, ◌<◌, ◌≤◌, Bool, true, fa
 use Rattle.std.proofs.lemmas.Bool.{cases_lt, false≢true, ltb-true}
 use Rattle.std.proofs.lemmas.Option.{same_Some}
 use Rattle.cove_base.proofs.HartPlaceLemmas.{line_at_place}
+use Rattle.cove_base.proofs.ScriptLimits.{limits_of, line_page, Limits}
 use Rattle.cove_base.specs.HartLines.{next_line}
 use Rattle.cove_base.specs.HartValues.{HartValue, accessed_page, has_walked_to}
 use Rattle.cove_base.specs.PageWords.{IsHostWord}
@@ -25,7 +26,6 @@ use Rattle.cove_base.specs.declared.scripts.ScriptLine.{ScriptLine}
 use Rattle.cove_base.specs.declared.walks.Noted.{Noted}
 use Rattle.cove_base.specs.declared.walks.Target.TheVariants as targets
 use Rattle.cove_core.proofs.Performing.{absent_now, not_true, reached_rightly, told_rightly, walk_is}
-use Rattle.cove_base.proofs.ScriptLimits.{limits_of, line_page, Limits}
 use Rattle.cove_core.proofs.Walking.{sought, unwalked_now, wanted, wanted_below}
 use Rattle.cove_core.specs.Kept.{IsKept}
 use Rattle.cove_core.specs.Made.{IsMade, IsTold, IsWithinReach}
@@ -344,7 +344,7 @@ idle_never script held l next idle = by_access (accessed_page l.line) (sym (ap (
 -- words that are kept have each page's word
 pub kept_words : (script : ScriptValue) → IsTrue (is_within_limits script) → (words : List ℕ) (mon : Mon) → IsKept script words mon → length mon.history < ENTRY_LIMIT → HavePageWords script.pages words
 kept_words script within words mon kept room p below =
-    let some = (limits_of script within).harts in
+    let some = (limits_of script within).some_harts in
     let size = kept.stands.stands.size in
     let fences = kept.epoch in
     (omega arith, words_are_words script.pages script.harts words (after script mon.history) p below kept.stands (omega arith) (omega arith) (omega arith))

@@ -16,11 +16,11 @@ use Rattle.cove_base.specs.declared.walks.Noted.{Noted}
 use Rattle.cove_base.specs.declared.walks.Target.{Target}
 use Rattle.cove_base.specs.declared.walks.Target.TheVariants as targets
 use Rattle.cove_base.proofs.HartPlaceLemmas.{line_at_place}
+use Rattle.cove_base.proofs.ScriptLimits.{line_page}
 use Rattle.cove_core.specs.Kept.{IsKept}
 use Rattle.cove_core.specs.Reached.{IsPrepared}
 use Rattle.cove_core.specs.Walks.{IsFoundIn}
 use Rattle.cove_core.specs.declared.monitors.Mon.{Mon}
-use Rattle.cove_base.proofs.ScriptLimits.{line_page}
 use Rattle.cove_hart.specs.Needs.{access_need, line_need, next_need}
 use Rattle.cove_hart.specs.declared.needs.Need.TheVariants.{Walk, Event, Idle}
 use Rattle.cove_model.proofs.Fitting.{fits_found, fits_missing, ring_finds_page}

@@ -15,7 +15,7 @@ use cove_base::{
 use cove_fence::Epochs;
 use cove_owner::{PageState, all_free, all_host, any_mapped, set_all};
 
-/// Answers a call of a hart's. A call that the monitor doesn't have is not supported.
+/// Answers a call of a hart's. A call that is not built is not supported.
 pub fn call<W: Words>(w: &mut W, g: &mut Ground, h: HartId, c: HostCall) -> Reply
     requires ready { IsReady g.old.pages g.old.harts h.0 (W.words w.old) g.old.memory }
     requires allowed { AllowsLawful (W.allows (W.guard w.old)) g.old.pages g.old.harts no_tables h.0 (W.words w.old) }

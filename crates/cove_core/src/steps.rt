@@ -31,7 +31,7 @@ pub enum Stepped {
 }
 
 /// Makes a hart's next event and counts its entry, unless its line is of a later phase than one that is left, or
-/// the history is full. The entry is not handed out: it may hold a quote, and the history owns it.
+/// the history is full. It answers the place of the entry, which goes into the history.
 pub fn event_step<W: Words>(
     w: &mut W,
     mon: &mut Mon,

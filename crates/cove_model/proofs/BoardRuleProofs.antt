@@ -2,6 +2,7 @@
 use Rattle.std.proofs.Common.{◌≡◌, ◌≢◌, ℕ, ◌+◌, ◌<◌, ◌≤◌, Bool, true, false, cond, List, [], ◌∷◌, ◌++◌, Option, Some, None, IsSome, length, get_or, set, refl, sym, ◌∙◌, ap, subst, inl, inr, ⊎_elim, arith, get_or-set_other, get_or-set_same, length-set}
 use Rattle.std.proofs.lemmas.Bool.{cases_lt, false≢true}
 use Rattle.std.proofs.lemmas.List.{get_or_past, length_push}
+use Rattle.cove_base.proofs.ScriptLimits.{Limits, limits_of}
 use Rattle.cove_base.specs.HartValues.{HartValue, hosts_after}
 use Rattle.cove_base.specs.PageWords.{host, IsHostWord}
 use Rattle.cove_base.specs.Places.{count_word, epoch_word, answered_word, all_words}
@@ -25,7 +26,6 @@ use Rattle.cove_model.proofs.Playing.{was_longer, was_now}
 use Rattle.cove_model.proofs.StoreLawProofs.{stores_keep_answers, stores_keep_epoch, stores_keep_host, stores_keep_usable}
 use Rattle.cove_model.proofs.ToldProofs.{words_tell_host}
 use Rattle.cove_model.proofs.Usable.{held_since, usable}
-use Rattle.cove_base.proofs.ScriptLimits.{Limits, limits_of}
 use Rattle.cove_model.specs.BoardRule.{AreBounded, CountsKeepRule, FindsPage, FittingHartsLive, FittingHartsUse, HasFound, IsLive, IsMonitored, ListsKeepRule, LiveWalksWereRight, StoresKeepRule, UnusedLives, WalkLives}
 use Rattle.cove_model.specs.Cached.{IsReached, WasHost}
 use Rattle.cove_model.specs.Fits.{Fits, UnusedFits, WalkFits, ring_of, walked_ring}

@@ -1,4 +1,5 @@
 -- A history has as many entries as lines were ended, so a limit of as many entries as the script has lines is never short.
+use Rattle.cove_base.proofs.ScriptLimits.{Limits}
 use Rattle.cove_base.specs.HartLines.{lines_of}
 use Rattle.cove_base.specs.Scripts.{ScriptValue}
 use Rattle.cove_base.specs.declared.events.Entry.{Entry}
@@ -8,7 +9,6 @@ use Rattle.cove_model.proofs.Beginning.{begun, replicate_zero}
 use Rattle.cove_model.proofs.Playing.{fitting_played}
 use Rattle.cove_model.proofs.Progress.{played_ends, sum_below, sum_changed, sum_exact, sum_same}
 use Rattle.cove_model.proofs.Usable.{entry_on_board}
-use Rattle.cove_base.proofs.ScriptLimits.{Limits}
 use Rattle.cove_model.specs.Histories.{Legal, after}
 use Rattle.cove_model.specs.Played.{IsOver, played}
 use Rattle.cove_model.specs.States.{ended_by, opening}

@@ -1,4 +1,5 @@
 -- A played history is legal and cached.
+use Rattle.cove_base.proofs.ScriptLimits.{Limits}
 use Rattle.cove_base.specs.HartLines.{next_line}
 use Rattle.cove_base.specs.Scripts.{ScriptValue}
 use Rattle.cove_base.specs.declared.events.Entry.{Entry}
@@ -10,7 +11,6 @@ use Rattle.cove_base.specs.declared.scripts.ScriptLine.{ScriptLine}
 use Rattle.cove_model.proofs.AtTheEnd.{after_push, each_push, ended_other, legal_push, own_other}
 use Rattle.cove_model.proofs.Beginning.{due}
 use Rattle.cove_model.proofs.Usable.{held_since, line_on_board, usable}
-use Rattle.cove_base.proofs.ScriptLimits.{Limits}
 use Rattle.cove_model.specs.Cached.{IsCached, IsReached, Reaches, WasHost}
 use Rattle.cove_model.specs.Effects.{reply_to}
 use Rattle.cove_model.specs.Histories.{Legal, after}

@@ -1,4 +1,5 @@
 -- No page changes hands while a translation names it.
+use Rattle.cove_base.proofs.ScriptLimits.{Limits}
 use Rattle.cove_base.specs.Scripts.{ScriptValue}
 use Rattle.cove_base.specs.declared.calls.GuestAct.{GuestAct}
 use Rattle.cove_base.specs.declared.calls.HostCall.{HostCall}
@@ -8,7 +9,6 @@ use Rattle.cove_base.specs.declared.events.Event.{Event}
 use Rattle.cove_model.proofs.AtTheEnd.{each_push, from_end, legal_front, legal_last, tlb_other, tlb_push, tlb_same}
 use Rattle.cove_model.proofs.Members.{false-true}
 use Rattle.cove_model.proofs.Usable.{usable, use_holder, was_usable}
-use Rattle.cove_base.proofs.ScriptLimits.{Limits}
 use Rattle.cove_model.specs.Cached.{IsQuiet, IsQuietAt}
 use Rattle.cove_model.specs.Examples.{call}
 use Rattle.cove_model.specs.Histories.{Legal, after}

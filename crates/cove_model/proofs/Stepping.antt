@@ -1,4 +1,5 @@
 -- What is offered may be made, and what may be made is what is offered.
+use Rattle.cove_base.proofs.ScriptLimits.{Limits}
 use Rattle.cove_base.specs.HartLines.{lines_of, next_line}
 use Rattle.cove_base.specs.Scripts.{ScriptValue, phases_rise_from}
 use Rattle.cove_base.specs.declared.events.Event.{Event}
@@ -9,7 +10,6 @@ use Rattle.cove_model.proofs.Beginning.{none_past}
 use Rattle.cove_model.proofs.Members.{below_has, false-true, has_below}
 use Rattle.cove_model.proofs.Progress.{earlier_line, find_some}
 use Rattle.cove_model.proofs.Usable.{use_host}
-use Rattle.cove_base.proofs.ScriptLimits.{Limits}
 use Rattle.cove_model.specs.Effects.{reply_to}
 use Rattle.cove_model.specs.Offers.{Next, NoneEarlier, first_behind, is_behind, is_earlier, offer}
 use Rattle.cove_model.specs.Owners.{has, is_host, page_at}

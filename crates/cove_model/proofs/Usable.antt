@@ -1,4 +1,5 @@
 -- A page that a hart holds a translation of is one that it may use, and so no page changes hands under a translation.
+use Rattle.cove_base.proofs.ScriptLimits.{IsWithin, Limits}
 use Rattle.cove_base.specs.HartLines.{next_line}
 use Rattle.cove_base.specs.Scripts.{ScriptValue}
 use Rattle.cove_base.specs.declared.calls.HostCall.{HostCall}
@@ -13,7 +14,6 @@ use Rattle.cove_model.proofs.Beginning.{asked_line, due}
 use Rattle.cove_model.proofs.Members.{false-true, has_below, has_filled, has_without}
 use Rattle.cove_model.proofs.Runs.{change_cases}
 use Rattle.cove_model.proofs.Soundness.{Converts, Fences, Move, Reclaims, Responds, Same, Stores, moves, sound}
-use Rattle.cove_base.proofs.ScriptLimits.{IsWithin, Limits}
 use Rattle.cove_model.specs.Cached.{WasHost}
 use Rattle.cove_model.specs.Effects.{effect, refusal, state_by, value_of}
 use Rattle.cove_model.specs.Examples.{call}

@@ -1,5 +1,6 @@
 -- What a script plays is a history of it, of which every entry has a line.
 use Rattle.std.proofs.Common.{◌≡◌, ℕ, ◌≤◌, List, [], ◌∷◌, ◌++◌, length, IsTrue, true, ⊎_elim, refl, zero, suc, arith}
+use Rattle.cove_base.proofs.ScriptLimits.{limits_of}
 use Rattle.cove_base.specs.Scripts.{ScriptValue, is_within_limits}
 use Rattle.cove_base.specs.declared.events.Entry.{Entry}
 use Rattle.cove_base.specs.declared.events.Event.{Event}
@@ -15,7 +16,6 @@ use Rattle.cove_model.proofs.Beginning.{legal_begins, over_follows}
 use Rattle.cove_model.proofs.Playing.{played_fits}
 use Rattle.cove_model.proofs.Progress.{played_ends, played_size}
 use Rattle.cove_model.proofs.Quiet.{legal_quiet}
-use Rattle.cove_base.proofs.ScriptLimits.{limits_of}
 use Rattle.cove_run.specs.Printing.{AreWritable}
 use Rattle.cove_run.specs.TopCall.{IsHistoryOf, history_of}
 

@@ -1,13 +1,14 @@
 -- Every entry of a legal history of a script that a text spells has a line, which names it.
-use Rattle.std.proofs.Common.{◌≡◌, ℕ, zero, suc, ◌+◌, ◌-◌, ◌*◌, ◌^◌, ◌<◌, ◌≤◌, Bool, true, false, ◌==◌, nat_lt, List, [], ◌∷◌, ◌++◌, map, cond, filter, fold, ◌/◌, Option, Some, None, IsTrue, refl, sym, ap, subst, ◌∙◌, ⊎_elim, arith}
+use Rattle.std.proofs.Common.{◌≡◌, ℕ, zero, suc, ◌+◌, ◌-◌, ◌*◌, ◌^◌, ◌<◌, ◌≤◌, Bool, true, false, ◌==◌, nat_lt, List, [], ◌∷◌, ◌++◌, map, cond, filter, fold, ◌/◌, Option, Some, None, refl, sym, ap, subst, ◌∙◌, ⊎_elim, arith}
 use Rattle.std.specs.Prelude.{if◌then◌else◌, unwrap_or, slice_get, slice_index, slice_index_or, slice_set}
 use Rattle.std.specs.Int.{from_le_bytes, w64}
 use Rattle.std.specs.List.{list_all, range_with_len}
 use Rattle.std.proofs.lemmas.Bool.{and_from, and_parts, cases_lt, eq-eqb, or_left, lt-ltb, ltb-true}
 use Rattle.std.proofs.lemmas.List.Folds.{list_all-append}
 use Rattle.std.proofs.lemmas.Option.{same_Some}
+use Rattle.cove_base.proofs.ScriptLimits.{limits_of}
 use Rattle.cove_base.specs.HartLines.{lines_of}
-use Rattle.cove_base.specs.Scripts.{ScriptValue, is_within_limits}
+use Rattle.cove_base.specs.Scripts.{ScriptValue}
 use Rattle.cove_base.specs.declared.calls.HostCall.{HostCall}
 use Rattle.cove_base.specs.declared.calls.HostCall.TheVariants.{Convert, GlobalFence, LocalFence, Reclaim}
 use Rattle.cove_base.specs.declared.events.Entry.{Entry}
@@ -35,7 +36,6 @@ use Rattle.cove_model.proofs.Members.{below_has}
 use Rattle.cove_model.proofs.Runs.{change_cases, opening_page, opening_past, page_map}
 use Rattle.cove_model.proofs.Soundness.{sound}
 use Rattle.cove_model.proofs.Usable.{after_harts, entry_on_board}
-use Rattle.cove_base.proofs.ScriptLimits.{limits_of}
 use Rattle.cove_journal.proofs.SizesRead.{index_fits}
 use Rattle.cove_run.proofs.ScriptNumbers.{IsMachineScript, fill_fits, line_fits, script_line_fits}
 
@@ -250,9 +250,6 @@ event_is_sized S h (events.Guest act reply) line few is fits answers ask small =
 event_is_sized S h (events.Evidence quote) line few is fits answers ask small = absurd answers
 event_is_sized S h (events.Exit exit) line few is fits answers ask small = absurd answers
 
-few_harts : (script : ScriptValue) → IsTrue (is_within_limits script) → script.harts ≤ 8
-few_harts script e = (limits_of script e).few_harts
-
 -- ---- histories
 
 record Stands (script : ScriptValue) (history : List Entry) : Type 0 where
@@ -264,7 +261,7 @@ module _ (script : ScriptValue) (machine : IsMachineScript script) (history : Li
   S = after script history
 
   few : (after script history).harts ≤ 8
-  few = let same = after_harts script history in let le = few_harts script machine.within in omega arith
+  few = let same = after_harts script history in let le = (limits_of script machine.within).few_harts in omega arith
 
   may : Allows script (after script history) entry.hart.0 entry.event
   may = legal_last script history entry legal
@@ -279,7 +276,7 @@ module _ (script : ScriptValue) (machine : IsMachineScript script) (history : Li
   readable : is_readable entry ≡ true
   readable =
       let lt = entry_on_board script history entry (limits_of script machine.within) may in
-      let le = few_harts script machine.within in
+      let le = (limits_of script machine.within).few_harts in
       and_from _ _ (and_from _ _ (lt-ltb entry.hart.0 HART_LIMIT (omega arith)) (event_is_shown script (after script history) entry.hart.0 entry.event may)) sized
 
   next : Stands script (history ++ entry ∷ [])

@@ -1,8 +1,8 @@
 use Rattle.std.proofs.Common.{replicate, ap, ◌∙◌, arith}
+use Rattle.cove_base.proofs.ScriptLimits.{limits_of}
 use Rattle.cove_base.specs.Places.{all_words}
 use Rattle.cove_base.specs.Scripts.{ScriptValue}
 use Rattle.cove_core.proofs.Building.{built_fresh}
-use Rattle.cove_base.proofs.ScriptLimits.{limits_of}
 use Rattle.cove_core.proofs.builds.build.Goals as goal
 
 pub all_words-requires-clause-pages : goal.all_words-requires-clause-pages

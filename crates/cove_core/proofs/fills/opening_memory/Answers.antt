@@ -1,8 +1,8 @@
 use Rattle.std.proofs.Common.{◌≡◌, ℕ, ◌+◌, ◌<◌, ◌≤◌, IsTrue, [], length, get_or, take, subst, sym, ap, ◌∙◌, arith}
 use Rattle.std.proofs.lemmas.List.{length-replicate, take_all}
+use Rattle.cove_base.proofs.ScriptLimits.{limits_of}
 use Rattle.cove_base.specs.Scripts.{ScriptValue, is_fill}
 use Rattle.cove_core.proofs.FillLemmas.{fill_within, filled_stands, opening_more, show_same, show_zeros}
-use Rattle.cove_base.proofs.ScriptLimits.{limits_of}
 use Rattle.cove_core.specs.Bytes.{FramesShow}
 use Rattle.cove_mem.specs.Frames.{zeros}
 use Rattle.cove_model.specs.States.{byte_after, opening_byte}

@@ -1,8 +1,8 @@
 use Rattle.std.proofs.Common.{◌≡◌, ◌+◌, length, set, get_or, sym, subst, ap, ◌∙◌, arith}
+use Rattle.cove_base.proofs.ScriptLimits.{limits_of}
 use Rattle.cove_base.specs.HartPlaces.{IsPlace}
 use Rattle.cove_base.specs.Places.{count_word}
 use Rattle.cove_core.proofs.Entering.{countable, ended_few, fits_after, kept_by}
-use Rattle.cove_base.proofs.ScriptLimits.{limits_of}
 use Rattle.cove_hart.specs.HartStates.{value_of}
 use Rattle.cove_hart.specs.declared.states.HartState.{HartState}
 use Rattle.cove_model.specs.Fits.{Fits}

@@ -1,7 +1,7 @@
 use Rattle.std.proofs.Common.{◌≡◌, sym, subst, ap, ◌∙◌, arith}
+use Rattle.cove_base.proofs.ScriptLimits.{limits_of}
 use Rattle.cove_base.specs.declared.walks.Target.{Target}
 use Rattle.cove_base.specs.declared.walks.Target.TheVariants.{Host}
-use Rattle.cove_base.proofs.ScriptLimits.{limits_of}
 use Rattle.cove_core.proofs.Walking.{fits_walk, wanted, wanted_below}
 use Rattle.cove_hart.specs.HartStates.{value_of}
 use Rattle.cove_hart.specs.Needs.{next_need}

@@ -1,6 +1,6 @@
+use Rattle.cove_base.proofs.ScriptLimits.{limits_of}
 use Rattle.cove_model.proofs.laws.offers_are_allowed.Goals as goal
 use Rattle.cove_model.proofs.Stepping.{behind_iff, offer_made}
-use Rattle.cove_base.proofs.ScriptLimits.{limits_of}
 
 pub returns-clause-made : goal.returns-clause-made
 returns-clause-made c = offer_made

@@ -1,10 +1,10 @@
+use Rattle.cove_base.proofs.ScriptLimits.{limits_of}
 use Rattle.cove_model.proofs.laws.played_histories_are_legal.Goals as goal
 use Rattle.cove_model.proofs.Beginning.{legal_begins, over_follows}
 use Rattle.cove_model.proofs.Counting.{played_over}
 use Rattle.cove_model.proofs.Playing.{played_fits}
 use Rattle.cove_model.proofs.Progress.{played_ends, played_size}
 use Rattle.cove_model.proofs.Quiet.{legal_quiet}
-use Rattle.cove_base.proofs.ScriptLimits.{limits_of}
 use Rattle.cove_model.specs.Played.{played}
 
 pub returns-clause-legal : goal.returns-clause-legal

@@ -1,37 +1,37 @@
 use Rattle.std.proofs.Common.{◌≡◌, ◌++◌, [], ◌∷◌, true, length, map, arith, length-append, ap, sym, subst, ◌∙◌}
 use Rattle.std.specs.List.{list_all}
-use Rattle.cove_base.specs.declared.stored.StoredEntry.{StoredEntry}
-use Rattle.cove_base.specs.StoredEntries.{entry_of, is_among, quotes_of}
-use Rattle.cove_base.proofs.StoredEntryLemmas.{shown_appended, among_appended, one_quote}
+use Rattle.cove_base.specs.declared.compact.CompactEntry.{CompactEntry}
+use Rattle.cove_base.specs.CompactEntries.{entry_of, is_among, quotes_of}
+use Rattle.cove_base.proofs.CompactEntryLemmas.{shown_appended, among_appended, one_quote}
 use Rattle.cove_base.proofs.histories.History.push.Goals as goal
 
 pub invariant_of-self : goal.invariant_of-self
 invariant_of-self c =
     let was = c.self.inside in
-    let after = c.store-event.new.quotes.items in
-    let last : StoredEntry = record { hart = c.args.item.hart; event = c.store-event.result } in
-    let grown = c.in-Ok.ensures.items in
+    let after = c.compact-event.new.quotes.items in
+    let last : CompactEntry = record { hart = c.args.item.hart; event = c.compact-event.result } in
+    let grown = c.push_reserved.ensures.items in
     record {
-      placed = subst (λ entries. list_all (λ entry. is_among (length after) entry.event) entries ≡ true) (sym grown)
-          (among_appended was.quotes.items (quotes_of c.args.item.event) after was.entries.items last c.self.invariant.placed c.store-event.ensures.quotes c.store-event.ensures.among);
+      among = subst (λ entries. list_all (λ entry. is_among (length after) entry.event) entries ≡ true) (sym grown)
+          (among_appended was.quotes.items (quotes_of c.args.item.event) after was.entries.items last c.self.invariant.among c.compact-event.ensures.quotes c.compact-event.ensures.among);
       few = omega (
         arith,
         ap length grown,
         length-append was.entries.items (last ∷ []),
-        ap length c.store-event.ensures.quotes,
+        ap length c.compact-event.ensures.quotes,
         length-append was.quotes.items (quotes_of c.args.item.event),
         one_quote c.args.item.event,
         c.self.invariant.few,
       );
-      entry_room = omega (arith, c.self.invariant.entry_room, c.push.ensures.lower_bound);
-      quote_room = omega (arith, c.self.invariant.quote_room, c.store-event.ensures.room);
+      entry_room = omega (arith, c.self.invariant.entry_room, c.push_reserved.ensures.capacity);
+      quote_room = omega (arith, c.self.invariant.quote_room, c.compact-event.ensures.room);
     }
 
 pub returns : goal.returns
 returns c =
     let was = c.self.inside in
-    let after = c.store-event.new.quotes.items in
-    ap (λ entries. map (entry_of after) entries) c.in-Ok.ensures.items
-    ∙ shown_appended was.quotes.items (quotes_of c.args.item.event) after was.entries.items c.args.item.hart c.args.item.event c.store-event.result
-    c.self.invariant.placed c.store-event.ensures.quotes c.store-event.ensures.event
+    let after = c.compact-event.new.quotes.items in
+    ap (λ entries. map (entry_of after) entries) c.push_reserved.ensures.items
+    ∙ shown_appended was.quotes.items (quotes_of c.args.item.event) after was.entries.items c.args.item.hart c.args.item.event c.compact-event.result
+    c.self.invariant.among c.compact-event.ensures.quotes c.compact-event.ensures.event
     ∙ ap (λ front. front ++ c.args.item ∷ []) c.self.view_is

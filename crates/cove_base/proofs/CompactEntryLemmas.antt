@@ -6,43 +6,43 @@ use Rattle.std.proofs.lemmas.List.{get_or_append_left, map-append}
 use Rattle.std.proofs.lemmas.List.Folds.{list_all-append}
 use Rattle.cove_base.specs.declared.numbers.HartId.{HartId}
 use Rattle.cove_base.specs.declared.events.Event.{Event}
-use Rattle.cove_base.specs.declared.stored.StoredEntry.{StoredEntry}
-use Rattle.cove_base.specs.declared.stored.StoredEvent.{StoredEvent}
-use Rattle.cove_base.specs.StoredEntries.{event_of, entry_of, quotes_of, is_among}
+use Rattle.cove_base.specs.declared.compact.CompactEntry.{CompactEntry}
+use Rattle.cove_base.specs.declared.compact.CompactEvent.{CompactEvent}
+use Rattle.cove_base.specs.CompactEntries.{event_of, entry_of, quotes_of, is_among}
 
 -- what is among some quotes is shown so with more quotes after them
-shown_same : (quotes more : List (List ℕ)) (event : StoredEvent) → is_among (length quotes) event ≡ true → event_of (quotes ++ more) event ≡ event_of quotes event
-shown_same quotes more (StoredEvent.Evidence place) among =
+shown_same : (quotes more : List (List ℕ)) (event : CompactEvent) → is_among (length quotes) event ≡ true → event_of (quotes ++ more) event ≡ event_of quotes event
+shown_same quotes more (CompactEvent.Evidence place) among =
     ap Event.Evidence (get_or_append_left quotes more [] place (ltb-true place (length quotes) among))
-shown_same quotes more (StoredEvent.Call call reply) among = refl
-shown_same quotes more (StoredEvent.Load addr how value) among = refl
-shown_same quotes more (StoredEvent.LoadFault addr) among = refl
-shown_same quotes more (StoredEvent.Store addr value how) among = refl
-shown_same quotes more (StoredEvent.StoreFault addr value) among = refl
-shown_same quotes more (StoredEvent.Fetch how) among = refl
-shown_same quotes more StoredEvent.Exec among = refl
-shown_same quotes more (StoredEvent.Access how) among = refl
-shown_same quotes more (StoredEvent.Guest act reply) among = refl
-shown_same quotes more (StoredEvent.Exit exit) among = refl
+shown_same quotes more (CompactEvent.Call call reply) among = refl
+shown_same quotes more (CompactEvent.Load addr how value) among = refl
+shown_same quotes more (CompactEvent.LoadFault addr) among = refl
+shown_same quotes more (CompactEvent.Store addr value how) among = refl
+shown_same quotes more (CompactEvent.StoreFault addr value) among = refl
+shown_same quotes more (CompactEvent.Fetch how) among = refl
+shown_same quotes more CompactEvent.Exec among = refl
+shown_same quotes more (CompactEvent.Access how) among = refl
+shown_same quotes more (CompactEvent.Guest act reply) among = refl
+shown_same quotes more (CompactEvent.Exit exit) among = refl
 
 -- what is among some quotes is among more
-among_more : (n m : ℕ) (event : StoredEvent) → n ≤ m → is_among n event ≡ true → is_among m event ≡ true
-among_more n m (StoredEvent.Evidence place) more among =
+among_more : (n m : ℕ) (event : CompactEvent) → n ≤ m → is_among n event ≡ true → is_among m event ≡ true
+among_more n m (CompactEvent.Evidence place) more among =
     let below : place < n = ltb-true place n among in
     lt-ltb place m (omega (arith, below, more))
-among_more n m (StoredEvent.Call call reply) more among = refl
-among_more n m (StoredEvent.Load addr how value) more among = refl
-among_more n m (StoredEvent.LoadFault addr) more among = refl
-among_more n m (StoredEvent.Store addr value how) more among = refl
-among_more n m (StoredEvent.StoreFault addr value) more among = refl
-among_more n m (StoredEvent.Fetch how) more among = refl
-among_more n m StoredEvent.Exec more among = refl
-among_more n m (StoredEvent.Access how) more among = refl
-among_more n m (StoredEvent.Guest act reply) more among = refl
-among_more n m (StoredEvent.Exit exit) more among = refl
+among_more n m (CompactEvent.Call call reply) more among = refl
+among_more n m (CompactEvent.Load addr how value) more among = refl
+among_more n m (CompactEvent.LoadFault addr) more among = refl
+among_more n m (CompactEvent.Store addr value how) more among = refl
+among_more n m (CompactEvent.StoreFault addr value) more among = refl
+among_more n m (CompactEvent.Fetch how) more among = refl
+among_more n m CompactEvent.Exec more among = refl
+among_more n m (CompactEvent.Access how) more among = refl
+among_more n m (CompactEvent.Guest act reply) more among = refl
+among_more n m (CompactEvent.Exit exit) more among = refl
 
 -- entries whose quotes are among some are shown so with more quotes after them
-entries_same : (quotes more : List (List ℕ)) (entries : List StoredEntry) → list_all (λ entry. is_among (length quotes) entry.event) entries ≡ true
+entries_same : (quotes more : List (List ℕ)) (entries : List CompactEntry) → list_all (λ entry. is_among (length quotes) entry.event) entries ≡ true
     → map (entry_of (quotes ++ more)) entries ≡ map (entry_of quotes) entries
 entries_same quotes more [] all = refl
 entries_same quotes more (entry ∷ entries) all =
@@ -51,7 +51,7 @@ entries_same quotes more (entry ∷ entries) all =
     ∙ ap (λ rest. entry_of quotes entry ∷ rest) (entries_same quotes more entries both.1)
 
 -- and their quotes are among more
-all_among_more : (n m : ℕ) (entries : List StoredEntry) → n ≤ m → list_all (λ entry. is_among n entry.event) entries ≡ true → list_all (λ entry. is_among m entry.event) entries ≡ true
+all_among_more : (n m : ℕ) (entries : List CompactEntry) → n ≤ m → list_all (λ entry. is_among n entry.event) entries ≡ true → list_all (λ entry. is_among m entry.event) entries ≡ true
 all_among_more n m [] more all = refl
 all_among_more n m (entry ∷ entries) more all =
     let both = and_parts (is_among n entry.event) (list_all (λ entry. is_among n entry.event) entries) all in
@@ -59,7 +59,7 @@ all_among_more n m (entry ∷ entries) more all =
     (among_more n m entry.event more both.0) (all_among_more n m entries more both.1)
 
 -- what a history shows once an entry is appended
-pub shown_appended : (quotes more after : List (List ℕ)) (entries : List StoredEntry) (hart : HartId) (event : Event) (kept : StoredEvent)
+pub shown_appended : (quotes more after : List (List ℕ)) (entries : List CompactEntry) (hart : HartId) (event : Event) (kept : CompactEvent)
     → list_all (λ entry. is_among (length quotes) entry.event) entries ≡ true
     → after ≡ quotes ++ more → event_of after kept ≡ event
     → map (entry_of after) (entries ++ (record { hart = hart; event = kept }) ∷ []) ≡ map (entry_of quotes) entries ++ (record { hart = hart; event = event }) ∷ []
@@ -69,7 +69,7 @@ shown_appended quotes more after entries hart event kept all grown shows =
     ∙ ap (λ (last : Event). map (entry_of quotes) entries ++ (record { hart = hart; event = last }) ∷ []) shows
 
 -- the quotes of the entries are there once an entry is appended
-pub among_appended : (quotes more after : List (List ℕ)) (entries : List StoredEntry) (last : StoredEntry)
+pub among_appended : (quotes more after : List (List ℕ)) (entries : List CompactEntry) (last : CompactEntry)
     → list_all (λ entry. is_among (length quotes) entry.event) entries ≡ true
     → after ≡ quotes ++ more → is_among (length after) last.event ≡ true
     → list_all (λ entry. is_among (length after) entry.event) (entries ++ last ∷ []) ≡ true
