@@ -53,10 +53,11 @@ is_among quotes (CompactEvent.Guest act reply) = true
 is_among quotes (CompactEvent.Evidence place) = nat_lt place quotes
 is_among quotes (CompactEvent.Exit exit) = true
 
--- how a history keeps its entries: the quote of each is among the quotes, there are no more quotes than entries, and
--- the capacities are for as many as a history may have
+-- how a history keeps its entries: the quote of each is among the quotes, there are no more quotes than entries and no
+-- more entries than a history may have, and the capacities are for as many
 pub record IsCompact (entries : List CompactEntry) (quotes : List (List ℕ)) (entry_capacity quote_capacity : ℕ) : Type 0 where
   pub among : list_all (λ entry. is_among (length quotes) entry.event) entries ≡ true
-  pub few : length quotes ≤ length entries
+  pub few_quotes : length quotes ≤ length entries
+  pub few_entries : length entries ≤ ENTRY_LIMIT
   pub entry_room : ENTRY_LIMIT ≤ entry_capacity
   pub quote_room : ENTRY_LIMIT ≤ quote_capacity

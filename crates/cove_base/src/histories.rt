@@ -1,4 +1,4 @@
-ghost use Rattle.std.specs.Prelude.{◌≡◌, ◌<◌, ◌++◌, [], ◌∷◌, length, IfOk, slice_get};
+ghost use Rattle.std.specs.Prelude.{◌≡◌, ◌<◌, ◌≤◌, ◌++◌, [], ◌∷◌, length, IfOk, slice_get};
 
 use crate::compact::{CompactEntry, compact, whole};
 use crate::events::Entry;
@@ -42,7 +42,8 @@ impl History {
 
     /// The number of entries.
     pub fn len(&self) -> usize
-        ensures { result ≡ length self.now }
+        ensures number { result ≡ length self.now }
+        ensures few { result ≤ ENTRY_LIMIT }
     {
         self.entries.len()
     }

@@ -16,7 +16,6 @@ use cove_text::{LineBuf, put_decimal};
 /// script is ended, else with `limit`.
 pub fn print_journal<K: Sink>(history: &History, is_whole: bool, sink: &mut K) -> Result<(), Failed>
     requires writable { AreWritable history.now }
-    requires few { length history.now < 2 ^ 32 }
     ensures count { K.count sink.old ≤ K.count sink.new }
     ensures ok { OnOk result (Appends (K.taken sink.old) (K.taken sink.new)
         (journal (if is_whole then codes "end" else codes "limit") history.now)) }

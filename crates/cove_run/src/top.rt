@@ -191,7 +191,6 @@ fn played_facts(script: &Script)
     ensures follows { IsOver script.now (history_of script.now) → Follows script.now (history_of script.now) }
     ensures full { (IsOver script.now (history_of script.now) → ⊥) → length (history_of script.now) ≡ ENTRY_LIMIT }
     ensures writable { AreWritable (history_of script.now) }
-    ensures few { length (history_of script.now) < 2 ^ 32 }
 {
     let _pages = script.pages;
 }

@@ -37,7 +37,7 @@ returns-in-Some-first_behind-clause-behind g c =
     let l = c.in-Some.line in
     let at : slice_get script.lines held.place ≡ Some l = sym c.line_at.ensures.line ∙ c.in-Some.is in
     let next = next_at script mon.history held c.requires.fits l at in
-    let size = c.len-place.ensures in
+    let size = c.len-place.ensures.number in
     let room : length mon.history < ENTRY_LIMIT = omega (arith, c.if-place.false) in
     λ other. (
       λ same. (room, record { line = l; next = next; first = c.in-Some-first_behind.ensures.some ∙ ap (λ (k : ℕ). Some k) same }),
@@ -71,7 +71,7 @@ perform-event-requires-clause-can g c =
     let l = c.in-Some.line in
     let at : slice_get script.lines held.place ≡ Some l = sym c.line_at.ensures.line ∙ c.in-Some.is in
     let next = next_at script mon.history held fits l at in
-    let size = c.len-place.ensures in
+    let size = c.len-place.ensures.number in
     let room : length mon.history < ENTRY_LIMIT = omega (arith, c.if-place.false) in
     can_on script.pages mon.ground.pages script.harts mon.ground.harts kept.board.pages kept.board.harts words mon.ground.memory held l.line
     (can_do script within words mon kept held fits l at next room l.line refl)
@@ -135,19 +135,19 @@ returns-clause-made g c =
     let entry : Entry = entry_from c.args.hart.now.hart event in
     let grown : c.enter.new.mon.history ≡ mon.history ++ entry ∷ [] =
     c.enter.ensures.grown ∙ ap (λ h. mon.history ++ entry_from h event ∷ []) hart in
-    last_entry (λ e. IsMade script words (g.W.Words.words c.enter.new.w) mon c.enter.new.mon held (value_of c.enter.new.hart) e) mon.history c.enter.new.mon.history entry c.len-place.result grown c.len-place.ensures
+    last_entry (λ e. IsMade script words (g.W.Words.words c.enter.new.w) mon c.enter.new.mon held (value_of c.enter.new.hart) e) mon.history c.enter.new.mon.history entry c.len-place.result grown c.len-place.ensures.number
     (made script within words mon kept held fits l at next now ground hosts event performed_so did (g.W.Words.words c.enter.new.w) c.enter.new.mon (value_of c.enter.new.hart)
     c.enter.ensures.kept c.enter.ensures.fits grown (ap (λ n. n.0) (c.enter.ensures.hart ∙ hart)) c.enter.ensures.hosts c.enter.ensures.used c.enter.ensures.words)
 
 pub returns-clause-entry : goal.returns-clause-entry
 returns-clause-entry g c =
-    (c.len-place.ensures, some_last c.args.mon.now.history c.enter.new.mon.history (entry_from c.perform-event.new.hart.hart c.perform-event.result) c.len-place.result c.enter.ensures.grown c.len-place.ensures)
+    (c.len-place.ensures.number, some_last c.args.mon.now.history c.enter.new.mon.history (entry_from c.perform-event.new.hart.hart c.perform-event.result) c.len-place.result c.enter.ensures.grown c.len-place.ensures.number)
 
 pub returns-clause-guard : goal.returns-clause-guard
 returns-clause-guard g c =
     let step = c.perform-event in
     let entry : Entry = entry_from step.new.hart.hart step.result in
-    last_entry (λ e. g.W.Words.guard c.enter.new.w ≡ guard_after (g.W.Words.guard c.args.w.now) (g.W.Words.words c.enter.new.w) e) c.args.mon.now.history c.enter.new.mon.history entry c.len-place.result c.enter.ensures.grown c.len-place.ensures
+    last_entry (λ e. g.W.Words.guard c.enter.new.w ≡ guard_after (g.W.Words.guard c.args.w.now) (g.W.Words.words c.enter.new.w) e) c.args.mon.now.history c.enter.new.mon.history entry c.len-place.result c.enter.ensures.grown c.len-place.ensures.number
     (c.enter.ensures.guard ∙ ap (λ q. guard_after q (g.W.Words.words c.enter.new.w) entry) step.ensures.guard)
 
 pub returns-clause-due : goal.returns-clause-due

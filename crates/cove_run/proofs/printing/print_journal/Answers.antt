@@ -46,9 +46,9 @@ pub returns-clause-front : goal.returns-clause-front
 returns-clause-front g c =
     let history = c.args.history.now in
     let i = c.loop-i.i in
-    let past : length history ≤ i = omega (arith, c.loop-i-test.false, c.len-entries.ensures) in
+    let past : length history ≤ i = omega (arith, c.loop-i-test.false, c.len-entries.ensures.number) in
     let all = take_all i history past in
-    let text = c.as_slice-2.ensures.bytes ∙ c.put_last.ensures ∙ ap (λ (n : ℕ). ended_line (last_line_of c.args.is_whole n)) c.len-entries.ensures in
+    let text = c.as_slice-2.ensures.bytes ∙ c.put_last.ensures ∙ ap (λ (n : ℕ). ended_line (last_line_of c.args.is_whole n)) c.len-entries.ensures.number in
     let whole =
     ap (λ (entries : List Entry). flat_map (λ entry. ended_line (entry_line entry)) entries ++ c.as_slice-2.result.now) all
     ∙ ap (λ line. flat_map (λ entry. ended_line (entry_line entry)) history ++ line) text in

@@ -1,7 +1,5 @@
-use Rattle.std.proofs.Common.{◌≤◌, length, subst, arith, IsTrue}
+use Rattle.std.proofs.Common.{subst, IsTrue}
 use Rattle.cove_base.specs.Scripts.{ScriptValue, is_within_limits}
-use Rattle.cove_base.specs.declared.limits.TheConstants.{ENTRY_LIMIT}
-use Rattle.cove_model.proofs.Progress.{played_size}
 use Rattle.cove_run.specs.TopCall.{history_of}
 use Rattle.cove_run.proofs.HistoryLemmas.{is_history, follows_whole, full_else, legal_writable}
 use Rattle.cove_run.proofs.top.played_facts.Goals as goal
@@ -18,6 +16,3 @@ returns-clause-full c = full_else c.args.script.now
 pub returns-clause-writable : goal.returns-clause-writable
 returns-clause-writable c =
     legal_writable c.args.script.now (history_of c.args.script.now) (is_history c.args.script.now (subst (λ (s : ScriptValue). IsTrue (is_within_limits s)) c.script.view_is c.script.invariant)).legal
-
-pub returns-clause-few : goal.returns-clause-few
-returns-clause-few c = let few : length (history_of c.args.script.now) ≤ ENTRY_LIMIT = played_size ENTRY_LIMIT c.args.script.now in omega arith

@@ -1,5 +1,6 @@
 use Rattle.std.proofs.Common.{◌≡◌, ◌++◌, [], ◌∷◌, true, length, map, arith, length-append, ap, sym, subst, ◌∙◌}
 use Rattle.std.specs.List.{list_all}
+use Rattle.std.proofs.lemmas.List.{length-map}
 use Rattle.cove_base.specs.declared.compact.CompactEntry.{CompactEntry}
 use Rattle.cove_base.specs.CompactEntries.{entry_of, is_among, quotes_of}
 use Rattle.cove_base.proofs.CompactEntryLemmas.{shown_appended, among_appended, one_quote}
@@ -11,18 +12,20 @@ invariant_of-self c =
     let after = c.compact-event.new.quotes.items in
     let last : CompactEntry = record { hart = c.args.item.hart; event = c.compact-event.result } in
     let grown = c.push_reserved.ensures.items in
+    let size = ap length grown ∙ length-append was.entries.items (last ∷ []) in
+    let shown = ap length (sym c.self.view_is) ∙ length-map was.entries.items (entry_of was.quotes.items) in
     record {
       among = subst (λ entries. list_all (λ entry. is_among (length after) entry.event) entries ≡ true) (sym grown)
           (among_appended was.quotes.items (quotes_of c.args.item.event) after was.entries.items last c.self.invariant.among c.compact-event.ensures.quotes c.compact-event.ensures.among);
-      few = omega (
+      few_quotes = omega (
         arith,
-        ap length grown,
-        length-append was.entries.items (last ∷ []),
+        size,
         ap length c.compact-event.ensures.quotes,
         length-append was.quotes.items (quotes_of c.args.item.event),
         one_quote c.args.item.event,
-        c.self.invariant.few,
+        c.self.invariant.few_quotes,
       );
+      few_entries = omega (arith, size, shown, c.requires);
       entry_room = omega (arith, c.self.invariant.entry_room, c.push_reserved.ensures.capacity);
       quote_room = omega (arith, c.self.invariant.quote_room, c.compact-event.ensures.room);
     }
