@@ -3,7 +3,7 @@ use Rattle.std.proofs.Common.{◌≡◌, ℕ, zero, suc, ◌+◌, ◌<◌, Bool,
 use Rattle.std.proofs.lemmas.Bool.{eq-eqb}
 use Rattle.cove_base.specs.declared.scripts.ScriptLine.{ScriptLine}
 use Rattle.cove_base.specs.HartLines.{lines_of, next_line}
-use Rattle.cove_base.specs.HartPlaces.{is_line_of, IsPlace}
+use Rattle.cove_base.specs.HartPlaces.{is_line_of, IsNextPlace}
 use Rattle.cove_base.specs.Scripts.{ScriptValue}
 
 first-drop : {X : Type 0} (xs : List X) (n : ℕ) → slice_get (drop n xs) 0 ≡ slice_get xs n
@@ -36,7 +36,7 @@ is_own : (hart : ℕ) (line : Option ScriptLine) → IfSome line (λ l. l.hart.0
 is_own hart None own = tt
 is_own hart (Some line) own = eq-eqb line.hart.0 hart own
 
-module _ (script : ScriptValue) (hart ended place : ℕ) (stands : IsPlace script hart ended place) where
+module _ (script : ScriptValue) (hart ended place : ℕ) (stands : IsNextPlace script hart ended place) where
   starts : IfSome (slice_get (drop place script.lines) 0) (λ l. is_line_of hart l ≡ true)
   starts = rw first-drop (is_own hart (slice_get script.lines place) stands.here)
 

@@ -10,6 +10,6 @@ is_line_of hart line = line.hart.0 == hart
 
 -- the place of the next line of a hart that has ended this many of its lines: from there on stand all that it has
 -- not ended, and its next one there; or there is none, and it is the end of the script's lines
-pub record IsPlace (script : ScriptValue) (hart ended place : ℕ) : Type 0 where
+pub record IsNextPlace (script : ScriptValue) (hart ended place : ℕ) : Type 0 where
   pub rest : filter (is_line_of hart) (drop place script.lines) ≡ drop ended (lines_of script hart)
   pub here : IfSome (slice_get script.lines place) (λ line. line.hart.0 ≡ hart)

@@ -1,6 +1,6 @@
 /// A call of the host to the monitor, with its arguments as the host gave them: byte addresses, numbers of
 /// pages, TVMs, vCPUs, harts, files and identities, each any 64-bit number.
-#[derive(Clone, Copy, Debug, PartialEq, Eq)]
+#[derive(Clone, Copy)]
 pub enum HostCall {
     Convert {
         base: u64,
@@ -107,7 +107,7 @@ pub enum HostCall {
 }
 
 /// What a guest asks for by an ECALL.
-#[derive(Clone, Copy, Debug, PartialEq, Eq)]
+#[derive(Clone, Copy)]
 pub enum GuestAct {
     Share { gpa: u64, len: u64 },
     Unshare { gpa: u64, len: u64 },

@@ -4,21 +4,21 @@ use crate::quotes::Quote;
 use crate::statuses::Reply;
 
 /// How an access came to its page: by the hart's TLB, or by a walk.
-#[derive(Clone, Copy, Debug, PartialEq, Eq)]
+#[derive(Clone, Copy)]
 pub enum How {
     Hit,
     Walk,
 }
 
 /// What a walk came to: a page, or the word that stopped it.
-#[derive(Clone, Copy, Debug, PartialEq, Eq)]
+#[derive(Clone, Copy)]
 pub enum Walked {
     Found(Page),
     Missing(u64),
 }
 
 /// Why a hart left a TVM. Causes are those of the RISC-V privileged architecture.
-#[derive(Clone, Copy, Debug, PartialEq, Eq)]
+#[derive(Clone, Copy)]
 pub enum Exit {
     Fuel,
     Kicked,

@@ -5,14 +5,14 @@ use crate::limits::RANGE_LIMIT;
 use crate::numbers::Page;
 
 /// Pages that follow each other: `count` of them from `first` on.
-#[derive(Clone, Copy, Debug, PartialEq, Eq)]
+#[derive(Clone, Copy)]
 pub struct PageRange {
     pub first: Page,
     pub count: u32,
 }
 
 /// Why an address and a number name no pages of a board.
-#[derive(Clone, Copy, Debug, PartialEq, Eq)]
+#[derive(Clone, Copy)]
 pub enum RangeFault {
     BadCount,
     Unaligned,

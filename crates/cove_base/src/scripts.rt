@@ -5,7 +5,7 @@ use crate::script_lines::Lines;
 use std::marker::Model;
 
 /// What a hart is asked to do next. Addresses are in bytes; a load or a store moves 8 bytes, little-endian.
-#[derive(Clone, Copy, Debug, PartialEq, Eq)]
+#[derive(Clone, Copy)]
 pub enum Line {
     Call(HostCall),
     Load { addr: u64 },
@@ -13,7 +13,7 @@ pub enum Line {
 }
 
 /// One line of a hart, and its phase.
-#[derive(Clone, Copy, Debug, PartialEq, Eq)]
+#[derive(Clone, Copy)]
 pub struct ScriptLine {
     pub hart: HartId,
     pub phase: u32,

@@ -2,7 +2,7 @@ ghost use Rattle.std.specs.Prelude.{◌≡◌};
 ghost use Rattle.cove_base.specs.Statuses.{code_of};
 
 /// A status of the RISC-V Supervisor Binary Interface.
-#[derive(Clone, Copy, Debug, PartialEq, Eq)]
+#[derive(Clone, Copy)]
 pub enum Status {
     Success,
     Failed,
@@ -16,7 +16,7 @@ pub enum Status {
 }
 
 /// What a call answers: its status, and a value beside it.
-#[derive(Clone, Copy, Debug, PartialEq, Eq)]
+#[derive(Clone, Copy)]
 pub struct Reply {
     pub status: Status,
     pub value: u64,

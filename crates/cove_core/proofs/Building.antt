@@ -11,7 +11,7 @@ use Rattle.cove_core.specs.Kept.{IsBoard, IsKept}
 use Rattle.cove_core.specs.Plays.{IsFresh, IsSeated}
 use Rattle.cove_core.specs.Seats.{AreNew, AtFirstLines, IsNew}
 use Rattle.cove_core.specs.declared.ground.Ground.{Ground}
-use Rattle.cove_hart.specs.HartStates.{value_of}
+use Rattle.cove_hart.specs.HartStates.{hart_value}
 use Rattle.cove_hart.specs.declared.states.HartState.{HartState}
 use Rattle.cove_model.specs.Fits.{Fits}
 use Rattle.cove_model.specs.States.{opening}
@@ -21,7 +21,7 @@ use Rattle.cove_model.specs.WordsStand.{FramesStand}
 new_seated : (script : ScriptValue) (history : List Entry) (k : ℕ) (hart : HartState) → history ≡ [] → k < script.harts → IsNew script k hart → IsSeated script history k hart
 new_seated script history k hart unplayed below new = record {
   is = ap (λ (held : HartValue). held.hart) new.fresh;
-  fits = subst (λ h. Fits script h (value_of hart)) (sym unplayed)
+  fits = subst (λ h. Fits script h (hart_value hart)) (sym unplayed)
       (subst (Fits script []) (sym new.fresh) (opening_fits script k hart.place below new.place));
 }
 

@@ -3,7 +3,7 @@ use Rattle.std.proofs.Common.{◌≡◌, ℕ, ◌+◌, ◌<◌, ◌≤◌, ◌�
 use Rattle.std.proofs.lemmas.Bool.{cases_eq}
 use Rattle.std.proofs.lemmas.List.{length_push}
 use Rattle.cove_base.specs.HartLines.{next_line}
-use Rattle.cove_base.specs.HartPlaces.{IsPlace}
+use Rattle.cove_base.specs.HartPlaces.{IsNextPlace}
 use Rattle.cove_base.specs.HartValues.{HartValue}
 use Rattle.cove_base.specs.Places.{count_word, epoch_word, all_words}
 use Rattle.cove_base.specs.Scripts.{ScriptValue}
@@ -63,24 +63,24 @@ module _ (script : ScriptValue) (H : List Entry) (h : ℕ) (event : Event) where
   pub ended_after_other : (k : ℕ) → k ≢ h → ended_by (after script (H ++ entry_by h event ∷ [])) k ≡ ended_by (after script H) k
   ended_after_other k ne = ap (λ (T : State). ended_by T k) after_own ∙ ended_other (after script H) h k event ne
 
-  pub progress_own : (places : List ℕ) (place : ℕ) → h < script.harts → IsPlace script h (ended_by (after script H) h + 1) place → ProgressStands script (after script H) places → ProgressStands script (after script (H ++ entry_by h event ∷ [])) (set places h place)
+  pub progress_own : (places : List ℕ) (place : ℕ) → h < script.harts → IsNextPlace script h (ended_by (after script H) h + 1) place → ProgressStands script (after script H) places → ProgressStands script (after script (H ++ entry_by h event ∷ [])) (set places h place)
   progress_own places place on here old = record {
     count = length-set places h place ∙ old.count;
     each = λ k below. elim (cases_eq k h) [
       | inl e ↦
           let count = old.count in
           let within : h < length places = omega arith in
-          subst (λ j. IsPlace script j (ended_by (after script (H ++ entry_by h event ∷ [])) j) (get_or (set places h place) j 0)) (sym e)
-          (subst (λ n. IsPlace script h n (get_or (set places h place) h 0)) (sym (ended_after_own on))
-          (subst (λ n. IsPlace script h (ended_by (after script H) h + 1) n) (sym (get_or-set_same places h place 0 within)) here))
+          subst (λ j. IsNextPlace script j (ended_by (after script (H ++ entry_by h event ∷ [])) j) (get_or (set places h place) j 0)) (sym e)
+          (subst (λ n. IsNextPlace script h n (get_or (set places h place) h 0)) (sym (ended_after_own on))
+          (subst (λ n. IsNextPlace script h (ended_by (after script H) h + 1) n) (sym (get_or-set_same places h place 0 within)) here))
       | inr ne ↦
-          subst (λ n. IsPlace script k n (get_or (set places h place) k 0)) (sym (ended_after_other k ne))
-          (subst (λ n. IsPlace script k (ended_by (after script H) k) n) (sym (get_or-set_other places h k place 0 ne)) (old.each k below))
+          subst (λ n. IsNextPlace script k n (get_or (set places h place) k 0)) (sym (ended_after_other k ne))
+          (subst (λ n. IsNextPlace script k (ended_by (after script H) k) n) (sym (get_or-set_other places h k place 0 ne)) (old.each k below))
     ];
   }
 
   -- a hart that ended its line, used its walk and has the ring of its translations fits
-  pub fits_own : (held : HartValue) → held.hart ≡ h → h < script.harts → held.ended ≡ ended_by (after script H) h + 1 → IsPlace script h held.ended held.place → held.walked ≡ None → held.hosts ≡ ring_of (renewed (after script H) (tlb script H h) event).pages → Fits script (H ++ entry_by h event ∷ []) held
+  pub fits_own : (held : HartValue) → held.hart ≡ h → h < script.harts → held.ended ≡ ended_by (after script H) h + 1 → IsNextPlace script h held.ended held.place → held.walked ≡ None → held.hosts ≡ ring_of (renewed (after script H) (tlb script H h) event).pages → Fits script (H ++ entry_by h event ∷ []) held
   fits_own held same on ended place none ring =
       let H' = H ++ entry_by h event ∷ [] in
       let translations : tlb script H' held.hart ≡ renewed (after script H) (tlb script H h) event =
@@ -88,7 +88,7 @@ module _ (script : ScriptValue) (H : List Entry) (h : ℕ) (event : Event) where
       record {
         on_board = subst (λ k. k < script.harts) (sym same) on;
         counts = ended ∙ sym (ended_after_own on) ∙ ap (ended_by (after script H')) (sym same);
-        stands = subst (λ k. IsPlace script k held.ended held.place) (sym same) place;
+        stands = subst (λ k. IsNextPlace script k held.ended held.place) (sym same) place;
         ring = ring ∙ ap (λ (t : Tlb). ring_of t.pages) (sym translations) ∙ ap (walked_ring (ring_of (tlb script H' held.hart).pages)) (sym none);
         walk = subst (UnusedFits script H' held.hart) (sym none) tt;
       }
@@ -131,7 +131,7 @@ module _ (script : ScriptValue) (words : List ℕ) (mon : Mon) (held : HartValue
     epoch = performed.epoch;
   }
 
-  pub kept_after : (place : ℕ) → IsPlace script held.hart (held.ended + 1) place
+  pub kept_after : (place : ℕ) → IsNextPlace script held.hart (held.ended + 1) place
       → IsKept script (set words (count_word script.pages script.harts) (length mon.history + 1))
       (record { ground = mon.ground; history = mon.history ++ entry_by held.hart event ∷ []; progress = set mon.progress held.hart place })
   kept_after place here =
@@ -152,12 +152,12 @@ module _ (script : ScriptValue) (words : List ℕ) (mon : Mon) (held : HartValue
         frames =
             subst (FramesStand mon.ground.memory) (sym (after_own script mon.history held.hart event))
             (frames_ended mon.ground.memory held.hart (done (after script mon.history) held.hart event) performed.frames);
-        progress = progress_own script mon.history held.hart event mon.progress place performed.on_board (subst (λ n. IsPlace script held.hart (n + 1) place) performed.counts here) performed.progress;
+        progress = progress_own script mon.history held.hart event mon.progress place performed.on_board (subst (λ n. IsNextPlace script held.hart (n + 1) place) performed.counts here) performed.progress;
         count = get_or-set_same words at count 0 within ∙ sym longer;
         epoch = omega arith;
       }
 
-  pub fits_after : (left : HartValue) → left.hart ≡ held.hart → left.ended ≡ held.ended + 1 → IsPlace script held.hart left.ended left.place → left.walked ≡ None → left.hosts ≡ held.hosts → Fits script (mon.history ++ entry_by held.hart event ∷ []) left
+  pub fits_after : (left : HartValue) → left.hart ≡ held.hart → left.ended ≡ held.ended + 1 → IsNextPlace script held.hart left.ended left.place → left.walked ≡ None → left.hosts ≡ held.hosts → Fits script (mon.history ++ entry_by held.hart event ∷ []) left
   fits_after left same ended place none ring =
       fits_own script mon.history held.hart event left same performed.on_board (ended ∙ ap (λ n. n + 1) performed.counts) place none (ring ∙ performed.ring)
 
@@ -173,7 +173,7 @@ module _ (script : ScriptValue) (words : List ℕ) (mon : Mon) (held : HartValue
   ended_few = subst (λ n. n ≤ length mon.history) (sym performed.counts) (ended_within script held.hart performed.on_board mon.history)
 
   pub kept_by : (now : List ℕ) (history : List Entry) (places : List ℕ) (place : ℕ)
-      → IsPlace script held.hart (held.ended + 1) place
+      → IsNextPlace script held.hart (held.ended + 1) place
       → now ≡ set words (count_word script.pages script.harts) (length mon.history + 1)
       → history ≡ mon.history ++ entry_by held.hart event ∷ []
       → places ≡ set mon.progress held.hart place

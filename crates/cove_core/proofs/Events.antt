@@ -21,8 +21,8 @@ use Rattle.cove_base.specs.declared.walks.Target.TheVariants as targets
 use Rattle.cove_base.specs.declared.events.Walked.{Walked}
 use Rattle.cove_base.specs.declared.events.Walked.TheVariants as walks
 use Rattle.cove_core.specs.Made.{IsTold}
-use Rattle.cove_core.specs.Reached.{loaded, ring_after}
-use Rattle.cove_core.specs.Reached.{stored as stored_event}
+use Rattle.cove_core.specs.Reached.{load_event, ring_after}
+use Rattle.cove_core.specs.Reached.{store_event as stored_event}
 use Rattle.cove_core.specs.Reached.{frames_by}
 use Rattle.cove_core.specs.declared.accesses.Reach.{Reach}
 use Rattle.cove_core.specs.declared.accesses.Reach.TheVariants as reach
@@ -33,8 +33,8 @@ use Rattle.cove_model.specs.Cached.{IsReached}
 use Rattle.cove_model.specs.Effects.{reply_to}
 use Rattle.cove_model.specs.Fits.{Fits, IsSought, UnusedFits, WalkFits, ring_of, walked_ring}
 use Rattle.cove_model.specs.Histories.{after}
-use Rattle.cove_model.specs.Owners.{Owner, Host, Converting, Free, Given, change, may_use, page_at, stored, words_of}
-use Rattle.cove_model.specs.States.{State, page_of, place_of, word_at}
+use Rattle.cove_model.specs.Owners.{Owner, Host, Converting, Free, Given, change, may_use, page_at, word_stored, words_of}
+use Rattle.cove_model.specs.States.{State, page_of, word_place, word_at}
 use Rattle.cove_model.specs.Steps.{Answers, asked, done}
 use Rattle.cove_base.specs.Statuses.{is_success}
 use Rattle.cove_model.specs.Tlbs.{Tlb, after_call, renewed, tlb}
@@ -57,11 +57,11 @@ frame_told h f Free may stands = absurd (false≢true may)
 frame_told h f (Given tvm purpose) may stands = absurd (false≢true may)
 
 -- a word that a hart may load is that of the frame
-word_told : (S : State) (frames : List (List ℕ)) (h addr : ℕ) → FramesStand frames S → page_of addr < length frames → may_use h (page_at S.pages (page_of addr)) ≡ true → get_or (frame frames (page_of addr)) (place_of addr) 0 ≡ word_at S addr
+word_told : (S : State) (frames : List (List ℕ)) (h addr : ℕ) → FramesStand frames S → page_of addr < length frames → may_use h (page_at S.pages (page_of addr)) ≡ true → get_or (frame frames (page_of addr)) (word_place addr) 0 ≡ word_at S addr
 word_told S frames h addr stands below may =
-    ap (λ f. get_or f (place_of addr) 0) (frame_told h (frame frames (page_of addr)) (page_at S.pages (page_of addr)) may (stands.frame (page_of addr) below))
+    ap (λ f. get_or f (word_place addr) 0) (frame_told h (frame frames (page_of addr)) (page_at S.pages (page_of addr)) may (stands.frame (page_of addr) below))
 
-pub load_rightly : (script : ScriptValue) (H : List Entry) (h addr : ℕ) (frames : List (List ℕ)) → FramesStand frames (after script H) → page_of addr < length frames → (hosts : List (ℕ × Page)) (r : Reach) → IsReachedRightly script H h (page_of addr) hosts r → IsRightly script H h (lines.Load addr) hosts (loaded addr (get_or (frame frames (page_of addr)) (place_of addr) 0) r)
+pub load_rightly : (script : ScriptValue) (H : List Entry) (h addr : ℕ) (frames : List (List ℕ)) → FramesStand frames (after script H) → page_of addr < length frames → (hosts : List (ℕ × Page)) (r : Reach) → IsReachedRightly script H h (page_of addr) hosts r → IsRightly script H h (lines.Load addr) hosts (load_event addr (get_or (frame frames (page_of addr)) (word_place addr) 0) r)
 load_rightly script H h addr frames stands below hosts reach.Held right =
     record { asks = refl; answers = (right.may, word_told (after script H) frames h addr stands below right.may); reached = right.right; ring = right.ring }
 load_rightly script H h addr frames stands below hosts reach.Walked right =
@@ -71,13 +71,13 @@ load_rightly script H h addr frames stands below hosts reach.Fresh right =
 load_rightly script H h addr frames stands below hosts reach.Absent right =
     record { asks = refl; answers = right.may; reached = right.right; ring = right.ring }
 
-pub load_done : (S : State) (h addr value : ℕ) (r : Reach) → done S h (loaded addr value r) ≡ S
+pub load_done : (S : State) (h addr value : ℕ) (r : Reach) → done S h (load_event addr value r) ≡ S
 load_done S h addr value reach.Held = refl
 load_done S h addr value reach.Walked = refl
 load_done S h addr value reach.Fresh = refl
 load_done S h addr value reach.Absent = refl
 
-pub load_told : (words : List ℕ) (hosts : List (ℕ × Page)) (addr value : ℕ) (r : Reach) → IsToldBy words hosts (page_of addr) r → IsTold words hosts (loaded addr value r)
+pub load_told : (words : List ℕ) (hosts : List (ℕ × Page)) (addr value : ℕ) (r : Reach) → IsToldBy words hosts (page_of addr) r → IsTold words hosts (load_event addr value r)
 load_told words hosts addr value reach.Held told = told
 load_told words hosts addr value reach.Walked told = told
 load_told words hosts addr value reach.Fresh told = told
@@ -98,7 +98,7 @@ store_told words hosts addr value reach.Fresh told = told
 store_told words hosts addr value reach.Absent told = told
 
 -- a stored word of a page is no matter of the shared words
-page_stored : (harts epoch : ℕ) (numbers : ℕ → ℕ) (maps word i v : ℕ) (o : Owner) → PageStands harts epoch numbers maps word o → PageStands harts epoch numbers maps word (stored i v o)
+page_stored : (harts epoch : ℕ) (numbers : ℕ → ℕ) (maps word i v : ℕ) (o : Owner) → PageStands harts epoch numbers maps word o → PageStands harts epoch numbers maps word (word_stored i v o)
 page_stored harts epoch numbers maps word i v (Host words) stands = stands
 page_stored harts epoch numbers maps word i v (Converting held waiting words) stands = record {
   since = stands.since;
@@ -111,26 +111,26 @@ page_stored harts epoch numbers maps word i v (Converting held waiting words) st
 page_stored harts epoch numbers maps word i v Free stands = stands
 page_stored harts epoch numbers maps word i v (Given tvm purpose) stands = stands
 
-table_stored : (i v : ℕ) (o : Owner) → is_table (stored i v o) ≡ is_table o
+table_stored : (i v : ℕ) (o : Owner) → is_table (word_stored i v o) ≡ is_table o
 table_stored i v (Host words) = refl
 table_stored i v (Converting held waiting words) = refl
 table_stored i v Free = refl
 table_stored i v (Given tvm purpose) = refl
 
-stand_stored : (pages harts : ℕ) (words : List ℕ) (S : State) (i v p : ℕ) → Stand pages harts words S → Stand pages harts words (record S { pages = change (stored i v) p 1 S.pages })
+stand_stored : (pages harts : ℕ) (words : List ℕ) (S : State) (i v p : ℕ) → Stand pages harts words S → Stand pages harts words (record S { pages = change (word_stored i v) p 1 S.pages })
 stand_stored pages harts words S i v p old = record {
   stands = record {
     size = old.stands.size;
     owners = record {
-      page_count = length_change (stored i v) p 1 S.pages ∙ old.stands.owners.page_count;
+      page_count = length_change (word_stored i v) p 1 S.pages ∙ old.stands.owners.page_count;
       hart_count = old.stands.owners.hart_count;
-      page = λ q below. elim (change_cases (stored i v) p 1 S.pages q) [
+      page = λ q below. elim (change_cases (word_stored i v) p 1 S.pages q) [
         | inl same ↦ subst (PageStands harts _ _ 0 (get_or words q 0)) (sym same) (old.stands.owners.page q below)
         | inr other ↦ subst (PageStands harts _ _ 0 (get_or words q 0)) (sym other) (page_stored harts _ _ 0 (get_or words q 0) i v (page_at S.pages q) (old.stands.owners.page q below))
       ];
       unanswered = old.stands.owners.unanswered;
     };
-    tables = λ q j below small e. old.stands.tables q j below small (elim (change_cases (stored i v) p 1 S.pages q) [
+    tables = λ q j below small e. old.stands.tables q j below small (elim (change_cases (word_stored i v) p 1 S.pages q) [
       | inl same ↦ sym (ap is_table same) ∙ e
       | inr other ↦ sym (table_stored i v (page_at S.pages q)) ∙ sym (ap is_table other) ∙ e
     ]);
@@ -140,28 +140,28 @@ stand_stored pages harts words S i v p old = record {
   within = old.within;
 }
 
-frame_stored : (f : List ℕ) (i v : ℕ) (o : Owner) → FrameStands f o → FrameStands (set f i v) (stored i v o)
+frame_stored : (f : List ℕ) (i v : ℕ) (o : Owner) → FrameStands f o → FrameStands (set f i v) (word_stored i v o)
 frame_stored f i v (Host words) stands = ap (λ x. set x i v) stands
 frame_stored f i v (Converting held waiting words) stands = ap (λ x. set x i v) stands
 frame_stored f i v Free stands = tt
 frame_stored f i v (Given tvm purpose) stands = tt
 
-frames_stored : (frames : List (List ℕ)) (S : State) (i v p : ℕ) → p < length frames → FramesStand frames S → FramesStand (with_word frames p i v) (record S { pages = change (stored i v) p 1 S.pages })
+frames_stored : (frames : List (List ℕ)) (S : State) (i v p : ℕ) → p < length frames → FramesStand frames S → FramesStand (with_word frames p i v) (record S { pages = change (word_stored i v) p 1 S.pages })
 frames_stored frames S i v p below old =
     let new : List (List ℕ) = with_word frames p i v in
     let size : length new ≡ length frames = length-set frames p (set (frame frames p) i v) in
     let board = old.count in
     record {
-      count = size ∙ old.count ∙ sym (length_change (stored i v) p 1 S.pages);
+      count = size ∙ old.count ∙ sym (length_change (word_stored i v) p 1 S.pages);
       frame = λ q low. elim (cases_eq q p) [
         | inl e ↦
-            subst (λ k. FrameStands (get_or new k []) (page_at (change (stored i v) p 1 S.pages) k)) (sym e)
-            (subst (λ f. FrameStands f (page_at (change (stored i v) p 1 S.pages) p)) (sym (get_or-set_same frames p (set (frame frames p) i v) [] below))
-            (subst (FrameStands (set (frame frames p) i v)) (sym (change_inside (stored i v) p 1 S.pages p (omega arith) (omega arith) (omega arith)))
+            subst (λ k. FrameStands (get_or new k []) (page_at (change (word_stored i v) p 1 S.pages) k)) (sym e)
+            (subst (λ f. FrameStands f (page_at (change (word_stored i v) p 1 S.pages) p)) (sym (get_or-set_same frames p (set (frame frames p) i v) [] below))
+            (subst (FrameStands (set (frame frames p) i v)) (sym (change_inside (word_stored i v) p 1 S.pages p (omega arith) (omega arith) (omega arith)))
             (frame_stored (frame frames p) i v (page_at S.pages p) (old.frame p below))))
         | inr ne ↦
-            subst (λ f. FrameStands f (page_at (change (stored i v) p 1 S.pages) q)) (sym (get_or-set_other frames p q (set (frame frames p) i v) [] ne))
-            (subst (FrameStands (get_or frames q [])) (sym (change_outside (stored i v) p 1 S.pages q (apart q ne)))
+            subst (λ f. FrameStands f (page_at (change (word_stored i v) p 1 S.pages) q)) (sym (get_or-set_other frames p q (set (frame frames p) i v) [] ne))
+            (subst (FrameStands (get_or frames q [])) (sym (change_outside (word_stored i v) p 1 S.pages q (apart q ne)))
             (old.frame q (omega arith)))
       ];
     }
@@ -170,15 +170,15 @@ frames_stored frames S i v p below old =
     apart q ne = elim (cases_lt q p) [ inl less ↦ inl less | inr more ↦ inr (omega arith) ]
 
 pub store_stands : (pages harts : ℕ) (words : List ℕ) (S : State) (h addr value : ℕ) (r : Reach) → Stand pages harts words S → Stand pages harts words (done S h (stored_event addr value r))
-store_stands pages harts words S h addr value reach.Held old = stand_stored pages harts words S (place_of addr) value (page_of addr) old
-store_stands pages harts words S h addr value reach.Walked old = stand_stored pages harts words S (place_of addr) value (page_of addr) old
-store_stands pages harts words S h addr value reach.Fresh old = stand_stored pages harts words S (place_of addr) value (page_of addr) old
+store_stands pages harts words S h addr value reach.Held old = stand_stored pages harts words S (word_place addr) value (page_of addr) old
+store_stands pages harts words S h addr value reach.Walked old = stand_stored pages harts words S (word_place addr) value (page_of addr) old
+store_stands pages harts words S h addr value reach.Fresh old = stand_stored pages harts words S (word_place addr) value (page_of addr) old
 store_stands pages harts words S h addr value reach.Absent old = old
 
-pub store_frames : (frames : List (List ℕ)) (S : State) (h addr value : ℕ) (r : Reach) → page_of addr < length frames → FramesStand frames S → FramesStand (frames_by r frames (with_word frames (page_of addr) (place_of addr) value)) (done S h (stored_event addr value r))
-store_frames frames S h addr value reach.Held below old = frames_stored frames S (place_of addr) value (page_of addr) below old
-store_frames frames S h addr value reach.Walked below old = frames_stored frames S (place_of addr) value (page_of addr) below old
-store_frames frames S h addr value reach.Fresh below old = frames_stored frames S (place_of addr) value (page_of addr) below old
+pub store_frames : (frames : List (List ℕ)) (S : State) (h addr value : ℕ) (r : Reach) → page_of addr < length frames → FramesStand frames S → FramesStand (frames_by r frames (with_word frames (page_of addr) (word_place addr) value)) (done S h (stored_event addr value r))
+store_frames frames S h addr value reach.Held below old = frames_stored frames S (word_place addr) value (page_of addr) below old
+store_frames frames S h addr value reach.Walked below old = frames_stored frames S (word_place addr) value (page_of addr) below old
+store_frames frames S h addr value reach.Fresh below old = frames_stored frames S (word_place addr) value (page_of addr) below old
 store_frames frames S h addr value reach.Absent below old = old
 
 -- ---- calls

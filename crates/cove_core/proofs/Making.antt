@@ -20,8 +20,8 @@ use Rattle.cove_base.specs.declared.scripts.ScriptLine.{ScriptLine}
 use Rattle.cove_core.specs.Called.{no_tables}
 use Rattle.cove_core.specs.Kept.{IsKept}
 use Rattle.cove_core.specs.Made.{IsMade, IsPerformed, IsTold}
-use Rattle.cove_core.specs.Reached.{CanDo, IsDone, IsPrepared, IsReachable, loaded}
-use Rattle.cove_core.specs.Reached.{stored as stored_event}
+use Rattle.cove_core.specs.Reached.{CanDo, IsDone, IsPrepared, IsReachable, load_event}
+use Rattle.cove_core.specs.Reached.{store_event as stored_event}
 use Rattle.cove_core.specs.Stepped.{IsBehind}
 use Rattle.cove_core.specs.declared.ground.Ground.{Ground}
 use Rattle.cove_core.specs.declared.monitors.Mon.{Mon}
@@ -41,7 +41,7 @@ use Rattle.cove_model.specs.Histories.{Legal, after}
 use Rattle.cove_model.specs.LawfulStores.{AllowsLawful, IsLawful, MakesLawful}
 use Rattle.cove_model.specs.Offers.{Next, first_behind, offer}
 use Rattle.cove_model.specs.Played.{entry_by}
-use Rattle.cove_model.specs.States.{page_of, place_of}
+use Rattle.cove_model.specs.States.{page_of, word_place}
 use Rattle.cove_model.specs.Steps.{IsDue, done}
 use Rattle.cove_model.specs.Tlbs.{Tlb}
 use Rattle.cove_model.specs.WordLaws.{Stand}
@@ -130,14 +130,14 @@ module _ (script : ScriptValue) (within : IsTrue (is_within_limits script)) (wor
       let fences = kept.epoch in
       let asks = ap accessed_page is in
       let r = did.0.reach in
-      let value = get_or (frame mon.ground.memory (page_of addr)) (place_of addr) 0 in
+      let value = get_or (frame mon.ground.memory (page_of addr)) (word_place addr) 0 in
       let below = line_page script within held.place l (page_of addr) at asks in
       let need = ap (access_need held) (sym asks) ∙ ready in
       let right = reached_rightly script limits mon.history kept.legal words kept.stands held fits l next (page_of addr) asks below need hosts r did.0.reaches in
       let same = load_done S held.hart addr value r in
       subst (λ e. Parts script words mon held (lines.Load addr) now frames hosts e) (sym did.0.is)
-      (subst (λ ws. Parts script words mon held (lines.Load addr) ws frames hosts (loaded addr value r)) (sym did.1)
-      (subst (λ fs. Parts script words mon held (lines.Load addr) words fs hosts (loaded addr value r)) (sym did.2) (record {
+      (subst (λ ws. Parts script words mon held (lines.Load addr) ws frames hosts (load_event addr value r)) (sym did.1)
+      (subst (λ fs. Parts script words mon held (lines.Load addr) words fs hosts (load_event addr value r)) (sym did.2) (record {
         rightly = load_rightly script mon.history held.hart addr mon.ground.memory kept.frames (access_below (page_of addr) asks) hosts r right;
         stands = subst (Stand script.pages script.harts words) (sym same) kept.stands;
         frames_stand = subst (FramesStand mon.ground.memory) (sym same) kept.frames;

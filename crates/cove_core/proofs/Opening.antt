@@ -1,6 +1,6 @@
 -- At the opening the empty history is kept, and each hart of the board fits it.
 use Rattle.std.proofs.Common.{◌≡◌, ℕ, ◌<◌, List, [], None, get_or, length, replicate, refl, sym, subst, arith}
-use Rattle.cove_base.specs.HartPlaces.{IsPlace}
+use Rattle.cove_base.specs.HartPlaces.{IsNextPlace}
 use Rattle.cove_base.specs.Places.{all_words, count_word, epoch_word}
 use Rattle.cove_base.specs.Scripts.{ScriptValue}
 use Rattle.cove_core.specs.Kept.{IsBoard, IsKept, ProgressStands}
@@ -16,10 +16,10 @@ none_ended : (script : ScriptValue) (h : ℕ) → ended_by (opening script) h �
 none_ended script h = replicate_zero script.harts h
 
 -- the first place of each hart is its place at the opening
-pub opening_progress : (script : ScriptValue) (places : List ℕ) → length places ≡ script.harts → ((h : ℕ) → h < script.harts → IsPlace script h 0 (get_or places h 0)) → ProgressStands script (opening script) places
+pub opening_progress : (script : ScriptValue) (places : List ℕ) → length places ≡ script.harts → ((h : ℕ) → h < script.harts → IsNextPlace script h 0 (get_or places h 0)) → ProgressStands script (opening script) places
 opening_progress script places count each = record {
   count = count;
-  each = λ h below. subst (λ n. IsPlace script h n (get_or places h 0)) (sym (none_ended script h)) (each h below);
+  each = λ h below. subst (λ n. IsNextPlace script h n (get_or places h 0)) (sym (none_ended script h)) (each h below);
 }
 
 -- words of zeros, frames of the opening memory and the first places keep the empty history
@@ -39,7 +39,7 @@ opening_kept script ground places board frames progress =
     }
 
 -- a hart that has ended no line, found no page and made no walk fits
-pub opening_fits : (script : ScriptValue) (h place : ℕ) → h < script.harts → IsPlace script h 0 place → Fits script [] (record { hart = h; ended = 0; place = place; hosts = []; walked = None })
+pub opening_fits : (script : ScriptValue) (h place : ℕ) → h < script.harts → IsNextPlace script h 0 place → Fits script [] (record { hart = h; ended = 0; place = place; hosts = []; walked = None })
 opening_fits script h place below here = record {
   on_board = below;
   counts = sym (none_ended script h);

@@ -20,7 +20,7 @@ use Rattle.cove_base.specs.declared.scripts.ScriptLine.{ScriptLine}
 use Rattle.cove_base.specs.declared.walks.Noted.{Noted}
 use Rattle.cove_base.specs.declared.walks.Target.{Target}
 use Rattle.cove_base.specs.declared.walks.Target.TheVariants as targets
-use Rattle.cove_core.specs.Reached.{HasWalked, Reaches, is_found}
+use Rattle.cove_core.specs.Reached.{HasWalked, ComesTo, is_found}
 use Rattle.cove_core.specs.declared.accesses.Reach.{Reach}
 use Rattle.cove_core.specs.declared.accesses.Reach.TheVariants as reach
 use Rattle.cove_hart.specs.Needs.{access_need}
@@ -30,7 +30,7 @@ use Rattle.cove_model.proofs.Playing.{was_now}
 use Rattle.cove_model.proofs.ToldProofs.{words_tell_host}
 use Rattle.cove_model.proofs.Usable.{held_since, usable, use_host}
 use Rattle.cove_model.specs.Cached.{WasHost}
-use Rattle.cove_model.specs.Cached.{Reaches as IsRight}
+use Rattle.cove_model.specs.Cached.{ComesTo as IsRight}
 use Rattle.cove_model.specs.Fits.{Fits, IsSought, UnusedFits, WalkFits, ring_of, walked_ring}
 use Rattle.cove_model.specs.Histories.{Legal, after}
 use Rattle.cove_model.specs.Owners.{has, is_host, may_use, page_at}
@@ -176,7 +176,7 @@ module _ (script : ScriptValue) (limits : Limits script) (H : List Entry) (legal
       let w = walk_is false walked in
       ap (found p) (w.without_it refl) ∙ ring_lacks (tlb script H held.hart).pages p w.absent
 
-  pub reached_rightly : p < script.pages → access_need held (Some p) ≡ needs.Event → (hosts : List (ℕ × Page)) (r : Reach) → Reaches words held p hosts r → IsReachedRightly script H held.hart p hosts r
+  pub reached_rightly : p < script.pages → access_need held (Some p) ≡ needs.Event → (hosts : List (ℕ × Page)) (r : Reach) → ComesTo words held p hosts r → IsReachedRightly script H held.hart p hosts r
   reached_rightly below ready hosts reach.Held reaches =
       let pages = (tlb script H held.hart).pages in
       let ring : held.hosts ≡ ring_of pages = fits.ring ∙ ap (walked_ring (ring_of pages)) reaches.0 in
@@ -212,7 +212,7 @@ module _ (script : ScriptValue) (limits : Limits script) (H : List Entry) (legal
       }
 
   -- an access that succeeds has its page within reach, and one that faults has none in its ring
-  pub told_rightly : access_need held (Some p) ≡ needs.Event → (hosts : List (ℕ × Page)) (r : Reach) → Reaches words held p hosts r → IsToldBy words held.hosts p r
+  pub told_rightly : access_need held (Some p) ≡ needs.Event → (hosts : List (ℕ × Page)) (r : Reach) → ComesTo words held p hosts r → IsToldBy words held.hosts p r
   told_rightly ready hosts reach.Held reaches = inl (ready_found held p reaches.0 ready)
   told_rightly ready hosts reach.Walked reaches =
       let pages = (tlb script H held.hart).pages in

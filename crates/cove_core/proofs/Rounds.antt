@@ -8,7 +8,7 @@ use Rattle.cove_base.specs.declared.limits.TheConstants.{ENTRY_LIMIT}
 use Rattle.cove_core.specs.Kept.{IsKept}
 use Rattle.cove_core.specs.Plays.{AreReady, GoesOn, IsAt, IsSeated, IsTurn, IsTurned, Stays, note_of}
 use Rattle.cove_core.specs.declared.monitors.Mon.{Mon}
-use Rattle.cove_hart.specs.HartStates.{value_of}
+use Rattle.cove_hart.specs.HartStates.{hart_value}
 use Rattle.cove_hart.specs.declared.states.HartState.{HartState}
 use Rattle.cove_model.proofs.Playing.{rounds_stay}
 use Rattle.cove_model.specs.Played.{Play, Unwalked, enough, played, round, rounds, turn, unplayed}
@@ -30,7 +30,7 @@ get_set_other (y ∷ ys) (suc k) (suc j) x ne = get_set_other ys k j x (λ e. ne
 
 -- ---- a turn of one hart among all
 
-module _ (script : ScriptValue) (words now : List ℕ) (old new : Mon) (harts : List HartState) (k : ℕ) (held left : HartState) (changed : Bool) (ready : AreReady script words old harts) (below : k < script.harts) (at : slice_get harts k ≡ Some held) (turned : IsTurned script old.history new.history (value_of held) (value_of left) changed) where
+module _ (script : ScriptValue) (words now : List ℕ) (old new : Mon) (harts : List HartState) (k : ℕ) (held left : HartState) (changed : Bool) (ready : AreReady script words old harts) (below : k < script.harts) (at : slice_get harts k ≡ Some held) (turned : IsTurned script old.history new.history (hart_value held) (hart_value left) changed) where
   seat : IsSeated script old.history k held
   seat = subst (λ o. IfSome o (IsSeated script old.history k)) at (ready.seated k below)
 
@@ -38,7 +38,7 @@ module _ (script : ScriptValue) (words now : List ℕ) (old new : Mon) (harts : 
   others_seated j ne None is = is
   others_seated j ne (Some hart) is = record {
     is = is.is;
-    fits = turned.others (value_of hart) (λ e. ne (sym is.is ∙ e ∙ seat.is)) is.fits;
+    fits = turned.others (hart_value hart) (λ e. ne (sym is.is ∙ e ∙ seat.is)) is.fits;
   }
 
   seated_now : (j : ℕ) → j < script.harts → (j ≡ k) ⊎ (j ≡ k → ⊥) → IfSome (slice_get (set harts k left) j) (IsSeated script new.history j)

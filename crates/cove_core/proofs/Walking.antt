@@ -3,7 +3,7 @@ use Rattle.std.proofs.Common.{◌≡◌, ℕ, ◌<◌, Bool, true, false, cond, 
 use Rattle.std.proofs.lemmas.Bool.{false≢true}
 use Rattle.std.proofs.lemmas.Option.{none-some, same_Some}
 use Rattle.cove_base.specs.HartLines.{next_line}
-use Rattle.cove_base.specs.HartPlaces.{IsPlace}
+use Rattle.cove_base.specs.HartPlaces.{IsNextPlace}
 use Rattle.cove_base.specs.HartValues.{HartValue, accessed_page, after_walk, has_walked_to}
 use Rattle.cove_base.specs.Rings.{found}
 use Rattle.cove_base.specs.Scripts.{ScriptValue, is_within_limits}
@@ -77,7 +77,7 @@ wanted script held phase page needed = by_line (next_line script held.hart held.
     by_line (Some line) next need = by_phase line next (nat_lt phase line.phase) need
 
 -- the page that is wanted is one of the board
-pub wanted_below : (script : ScriptValue) → IsTrue (is_within_limits script) → (held : HartValue) (p : ℕ) → IsPlace script held.hart held.ended held.place → IsWanted script held p → p < script.pages
+pub wanted_below : (script : ScriptValue) → IsTrue (is_within_limits script) → (held : HartValue) (p : ℕ) → IsNextPlace script held.hart held.ended held.place → IsWanted script held p → p < script.pages
 wanted_below script within held p place want =
     line_page script within held.place want.line p (line_at_place script held.hart held.ended held.place place ∙ want.next) want.asks
 

@@ -1,6 +1,6 @@
 -- What the monitor keeps true of its history between two entries.
 use Rattle.std.specs.Prelude.{◌≡◌, ℕ, ◌<◌, ◌≤◌, List, length, slice_index}
-use Rattle.cove_base.specs.HartPlaces.{IsPlace}
+use Rattle.cove_base.specs.HartPlaces.{IsNextPlace}
 use Rattle.cove_base.specs.Places.{count_word}
 use Rattle.cove_base.specs.Scripts.{ScriptValue}
 use Rattle.cove_core.specs.declared.ground.Ground.{Ground}
@@ -19,7 +19,7 @@ pub record IsBoard (script : ScriptValue) (ground : Ground) : Type 0 where
 -- a place for each hart of the board: that of its next line in a state
 pub record ProgressStands (script : ScriptValue) (S : State) (places : List ℕ) : Type 0 where
   pub count : length places ≡ script.harts
-  pub each : (hart : ℕ) → hart < script.harts → IsPlace script hart (ended_by S hart) (slice_index places hart)
+  pub each : (hart : ℕ) → hart < script.harts → IsNextPlace script hart (ended_by S hart) (slice_index places hart)
 
 -- The history is legal and cached, and the words, the frames and the progress of the harts stand for the state after
 -- it. The count word is its length, and no more fences began.

@@ -1,7 +1,7 @@
 -- What an entry that a hart makes leaves.
 use Rattle.std.specs.Prelude.{◌≡◌, ◌≢◌, ℕ, ◌+◌, ◌<◌, ◌≤◌, Bool, true, List, [], ◌∷◌, ◌++◌, ◌⊎◌, IsSome, None, Option, length, slice_index, slice_set}
 use Rattle.cove_base.specs.Guards.{Guard, guard_after}
-use Rattle.cove_base.specs.HartPlaces.{IsPlace}
+use Rattle.cove_base.specs.HartPlaces.{IsNextPlace}
 use Rattle.cove_base.specs.HartValues.{HartValue}
 use Rattle.cove_base.specs.PageWords.{IsHostWord}
 use Rattle.cove_base.specs.Places.{count_word, page_word}
@@ -42,7 +42,7 @@ pub record IsPerformed (script : ScriptValue) (words : List ℕ) (mon : Mon) (he
   pub epoch : epoch_in script.pages words ≤ length mon.history + 1
   pub on_board : held.hart < script.harts
   pub counts : held.ended ≡ ended_by (after script mon.history) held.hart
-  pub place : IsPlace script held.hart held.ended held.place
+  pub place : IsNextPlace script held.hart held.ended held.place
   pub ring : held.hosts ≡ ring_of (renewed (after script mon.history) (tlb script mon.history held.hart) event).pages
 
 -- a page is named by a ring, or its word says that it is the host's

@@ -9,7 +9,7 @@ use Rattle.cove_core.specs.Kept.{IsKept}
 use Rattle.cove_core.specs.Reached.{is_found}
 use Rattle.cove_core.specs.declared.monitors.Mon.{Mon}
 use Rattle.cove_core.specs.declared.plays.Built.{Built}
-use Rattle.cove_hart.specs.HartStates.{value_of}
+use Rattle.cove_hart.specs.HartStates.{hart_value}
 use Rattle.cove_hart.specs.declared.states.HartState.{HartState}
 use Rattle.cove_model.specs.Fits.{Fits}
 use Rattle.cove_model.specs.Played.{Found, Missing, Note, Play, Unwalked, turn}
@@ -37,7 +37,7 @@ pub record IsTurned (script : ScriptValue) (old new : List Entry) (held left : H
 -- a hart of this number fits the history
 pub record IsSeated (script : ScriptValue) (history : List Entry) (number : ℕ) (hart : HartState) : Type 0 where
   pub is : hart.hart.0 ≡ number
-  pub fits : Fits script history (value_of hart)
+  pub fits : Fits script history (hart_value hart)
 
 -- The harts of the board, in order, each of which fits the history that is kept.
 pub record AreReady (script : ScriptValue) (words : List ℕ) (mon : Mon) (harts : List HartState) : Type 0 where

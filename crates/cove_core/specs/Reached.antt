@@ -26,7 +26,7 @@ use Rattle.cove_core.specs.declared.accesses.Reach.TheVariants as reach
 use Rattle.cove_hart.specs.Needs.{access_need}
 use Rattle.cove_hart.specs.declared.needs.Need.TheVariants as needs
 use Rattle.cove_mem.specs.Frames.{frame, with_word}
-use Rattle.cove_model.specs.States.{page_of, place_of}
+use Rattle.cove_model.specs.States.{page_of, word_place}
 use Rattle.cove_base.specs.Statuses.{is_success}
 
 -- a hart has a line left, for which it needs no walk any more
@@ -47,33 +47,33 @@ HasWalked (Some noted) finding = is_found noted.walked ≡ finding
 
 -- A page is held by the ring; or a walk that was not used yet found it; or that walk found none, and it is the host's
 -- by now, so that it comes into the ring; or it is not.
-abbrev pub Reaches : (words : List ℕ) (held : HartValue) (p : ℕ) (hosts : List (ℕ × Page)) → Reach → Type 0
-Reaches words held p hosts reach.Held = (held.walked ≡ None) × (hosts ≡ held.hosts)
-Reaches words held p hosts reach.Walked = HasWalked held.walked true × (hosts ≡ held.hosts)
-Reaches words held p hosts reach.Fresh =
+abbrev pub ComesTo : (words : List ℕ) (held : HartValue) (p : ℕ) (hosts : List (ℕ × Page)) → Reach → Type 0
+ComesTo words held p hosts reach.Held = (held.walked ≡ None) × (hosts ≡ held.hosts)
+ComesTo words held p hosts reach.Walked = HasWalked held.walked true × (hosts ≡ held.hosts)
+ComesTo words held p hosts reach.Fresh =
     HasWalked held.walked false × IsHostWord (slice_index words (page_word p)) × (hosts ≡ filled held.hosts p (record { 0 = p }))
-Reaches words held p hosts reach.Absent =
+ComesTo words held p hosts reach.Absent =
     HasWalked held.walked false × (IsHostWord (slice_index words (page_word p)) → ⊥) × (hosts ≡ held.hosts)
 
 -- the event of a load, and of a store
-abbrev pub loaded : (addr value : ℕ) → Reach → Event
-loaded addr value reach.Held = events.Load addr Hit value
-loaded addr value reach.Walked = events.Load addr Walk value
-loaded addr value reach.Fresh = events.Load addr Walk value
-loaded addr value reach.Absent = events.LoadFault addr
+abbrev pub load_event : (addr value : ℕ) → Reach → Event
+load_event addr value reach.Held = events.Load addr Hit value
+load_event addr value reach.Walked = events.Load addr Walk value
+load_event addr value reach.Fresh = events.Load addr Walk value
+load_event addr value reach.Absent = events.LoadFault addr
 
-abbrev pub stored : (addr value : ℕ) → Reach → Event
-stored addr value reach.Held = events.Store addr value Hit
-stored addr value reach.Walked = events.Store addr value Walk
-stored addr value reach.Fresh = events.Store addr value Walk
-stored addr value reach.Absent = events.StoreFault addr value
+abbrev pub store_event : (addr value : ℕ) → Reach → Event
+store_event addr value reach.Held = events.Store addr value Hit
+store_event addr value reach.Walked = events.Store addr value Walk
+store_event addr value reach.Fresh = events.Store addr value Walk
+store_event addr value reach.Absent = events.StoreFault addr value
 
 -- the frames after a store, where its page was reached
-abbrev pub frames_by : Reach → (before stored : List (List ℕ)) → List (List ℕ)
-frames_by reach.Held before stored = stored
-frames_by reach.Walked before stored = stored
-frames_by reach.Fresh before stored = stored
-frames_by reach.Absent before stored = before
+abbrev pub frames_by : Reach → (before store_event : List (List ℕ)) → List (List ℕ)
+frames_by reach.Held before store_event = store_event
+frames_by reach.Walked before store_event = store_event
+frames_by reach.Fresh before store_event = store_event
+frames_by reach.Absent before store_event = before
 
 -- an answered call empties the ring of its hart
 abbrev pub empties : HostCall → (accepted : Bool) → Bool
@@ -117,15 +117,15 @@ pub record IsReachable (words : List ℕ) (frames : List (List ℕ)) (held : Har
 -- a load that a hart made
 pub record IsLoaded (words : List ℕ) (frames : List (List ℕ)) (held : HartValue) (addr : ℕ) (hosts : List (ℕ × Page)) (event : Event) : Type 0 where
   pub reach : Reach
-  pub reaches : Reaches words held (page_of addr) hosts reach
-  pub is : event ≡ loaded addr (slice_index (frame frames (page_of addr)) (place_of addr)) reach
+  pub reaches : ComesTo words held (page_of addr) hosts reach
+  pub is : event ≡ load_event addr (slice_index (frame frames (page_of addr)) (word_place addr)) reach
 
 -- a store that a hart made
 pub record IsStored (words : List ℕ) (before now : List (List ℕ)) (held : HartValue) (addr value : ℕ) (hosts : List (ℕ × Page)) (event : Event) : Type 0 where
   pub reach : Reach
-  pub reaches : Reaches words held (page_of addr) hosts reach
-  pub is : event ≡ stored addr value reach
-  pub frames : now ≡ frames_by reach before (with_word before (page_of addr) (place_of addr) value)
+  pub reaches : ComesTo words held (page_of addr) hosts reach
+  pub is : event ≡ store_event addr value reach
+  pub frames : now ≡ frames_by reach before (with_word before (page_of addr) (word_place addr) value)
 
 -- a call that a hart made
 pub record IsAnswered (pages harts hart : ℕ) (call : HostCall) (old new : List ℕ) (before now : List (List ℕ)) (hosts left : List (ℕ × Page)) (event : Event) : Type 0 where

@@ -4,11 +4,11 @@ ghost use Rattle.std.specs.Prelude.{◌≡◌, ◌<◌, ◌↔◌, ◌^◌, IsTr
 ghost use Rattle.cove_base.specs.PageWords.{IsHostWord, IsPageWord};
 ghost use Rattle.cove_base.specs.Rings.{found};
 ghost use Rattle.cove_core.specs.Called.{IsReady, no_tables};
-ghost use Rattle.cove_core.specs.Reached.{CanDo, HasWalked, IsAnswered, IsDone, IsLoaded, IsReachable, IsStored, Reaches, empties, frames_by, loaded, stored};
-ghost use Rattle.cove_hart.specs.HartStates.{value_of};
+ghost use Rattle.cove_core.specs.Reached.{CanDo, HasWalked, IsAnswered, IsDone, IsLoaded, IsReachable, IsStored, ComesTo, empties, frames_by, load_event, store_event};
+ghost use Rattle.cove_hart.specs.HartStates.{hart_value};
 ghost use Rattle.cove_mem.specs.Frames.{frame, with_word};
 ghost use Rattle.cove_model.specs.LawfulStores.{AllowsLawful};
-ghost use Rattle.cove_model.specs.States.{page_of, place_of};
+ghost use Rattle.cove_model.specs.States.{page_of, word_place};
 ghost use Rattle.cove_base.specs.Statuses.{is_success};
 
 use crate::calls::call;
@@ -19,7 +19,7 @@ use cove_mem::Memory;
 use cove_owner::{PageState, state};
 
 /// How a hart comes to the page of its next line.
-#[derive(Clone, Copy, Debug, PartialEq, Eq)]
+#[derive(Clone, Copy)]
 pub enum Reach {
     /// Its ring holds the page.
     Held,
@@ -33,10 +33,10 @@ pub enum Reach {
 
 /// Does for a hart what a line says.
 pub fn perform<W: Words>(w: &mut W, g: &mut Ground, hart: &mut HartState, line: Line) -> Event
-    requires can { CanDo g.old.pages g.old.harts (W.words w.old) g.old.memory (value_of hart.old) line }
+    requires can { CanDo g.old.pages g.old.harts (W.words w.old) g.old.memory (hart_value hart.old) line }
     requires allowed { AllowsLawful (W.allows (W.guard w.old)) g.old.pages g.old.harts no_tables hart.old.hart.0 (W.words w.old) }
     ensures done { IsDone g.old.pages g.old.harts (W.words w.old) (W.words w.new) g.old.memory g.new.memory
-        (value_of hart.old) hart.new.hosts result line }
+        (hart_value hart.old) hart.new.hosts result line }
     ensures hart { hart.new ≡ record hart.old { hosts = hart.new.hosts } }
     ensures guard { W.guard w.new ≡ W.guard w.old }
     ensures board { (g.new.pages ≡ g.old.pages) × (g.new.harts ≡ g.old.harts) }
@@ -50,8 +50,8 @@ pub fn perform<W: Words>(w: &mut W, g: &mut Ground, hart: &mut HartState, line: 
 
 /// Makes a load for a hart.
 pub fn load<W: Words>(w: &mut W, memory: &Memory, hart: &mut HartState, addr: u64) -> Event
-    requires { IsReachable (W.words w.old) memory.now (value_of hart.old) (page_of addr) }
-    ensures loaded { IsLoaded (W.words w.old) memory.now (value_of hart.old) addr hart.new.hosts result }
+    requires { IsReachable (W.words w.old) memory.now (hart_value hart.old) (page_of addr) }
+    ensures loaded { IsLoaded (W.words w.old) memory.now (hart_value hart.old) addr hart.new.hosts result }
     ensures hart { hart.new ≡ record hart.old { hosts = hart.new.hosts } }
     ensures words { W.words w.new ≡ W.words w.old }
     ensures clean { W.clean w.new ≡ W.clean w.old }
@@ -60,7 +60,7 @@ pub fn load<W: Words>(w: &mut W, memory: &Memory, hart: &mut HartState, addr: u6
     let page = Page((addr / 4096) as u32);
     let reach = look_at(w, hart, page);
     let value = memory.load(page, (addr / 8 % 512) as u16);
-    loaded(addr, value, reach)
+    load_event(addr, value, reach)
 }
 
 /// Makes a store for a hart.
@@ -71,8 +71,8 @@ pub fn store<W: Words>(
     addr: u64,
     value: u64,
 ) -> Event
-    requires { IsReachable (W.words w.old) memory.old (value_of hart.old) (page_of addr) }
-    ensures stored { IsStored (W.words w.old) memory.old memory.new (value_of hart.old) addr value hart.new.hosts result }
+    requires { IsReachable (W.words w.old) memory.old (hart_value hart.old) (page_of addr) }
+    ensures stored { IsStored (W.words w.old) memory.old memory.new (hart_value hart.old) addr value hart.new.hosts result }
     ensures hart { hart.new ≡ record hart.old { hosts = hart.new.hosts } }
     ensures words { W.words w.new ≡ W.words w.old }
     ensures clean { W.clean w.new ≡ W.clean w.old }
@@ -81,7 +81,7 @@ pub fn store<W: Words>(
     let page = Page((addr / 4096) as u32);
     let reach = look_at(w, hart, page);
     store_where(memory, reach, page, (addr / 8 % 512) as u16, value);
-    stored(addr, value, reach)
+    store_event(addr, value, reach)
 }
 
 /// Answers a call for a hart.
@@ -107,7 +107,7 @@ fn look_at<W: Words>(w: &mut W, hart: &mut HartState, page: Page) -> Reach
     requires limit { page.0 < 2 ^ 16 }
     requires word { IsPageWord (slice_index (W.words w.old) page.0) }
     requires absent { HasWalked hart.old.walked false → found page.0 hart.old.hosts ≡ None }
-    ensures reaches { Reaches (W.words w.old) (value_of hart.old) page.0 hart.new.hosts result }
+    ensures reaches { ComesTo (W.words w.old) (hart_value hart.old) page.0 hart.new.hosts result }
     ensures hart { hart.new ≡ record hart.old { hosts = hart.new.hosts } }
     ensures words { W.words w.new ≡ W.words w.old }
     ensures clean { W.clean w.new ≡ W.clean w.old }
@@ -143,8 +143,8 @@ pub fn is_host<W: Words>(w: &mut W, page: Page) -> bool
 }
 
 // The event of a load.
-fn loaded(addr: u64, value: u64, reach: Reach) -> Event
-    ensures { result ≡ loaded addr value reach }
+fn load_event(addr: u64, value: u64, reach: Reach) -> Event
+    ensures { result ≡ load_event addr value reach }
 {
     match reach {
         Reach::Held => Event::Load {
@@ -162,8 +162,8 @@ fn loaded(addr: u64, value: u64, reach: Reach) -> Event
 }
 
 // The event of a store.
-fn stored(addr: u64, value: u64, reach: Reach) -> Event
-    ensures { result ≡ stored addr value reach }
+fn store_event(addr: u64, value: u64, reach: Reach) -> Event
+    ensures { result ≡ store_event addr value reach }
 {
     match reach {
         Reach::Held => Event::Store {

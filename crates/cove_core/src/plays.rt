@@ -4,7 +4,7 @@ ghost use Rattle.std.specs.Prelude.{◌≡◌, ◌<◌, ◌↔◌, IsTrue, false
 ghost use Rattle.cove_base.specs.declared.limits.TheConstants.{ENTRY_LIMIT};
 ghost use Rattle.cove_core.specs.Kept.{IsKept};
 ghost use Rattle.cove_core.specs.Plays.{AreReady, GoesOn, IsFresh, IsTurned, Stays};
-ghost use Rattle.cove_hart.specs.HartStates.{value_of};
+ghost use Rattle.cove_hart.specs.HartStates.{hart_value};
 ghost use Rattle.cove_model.specs.Fits.{Fits};
 ghost use Rattle.cove_model.specs.Played.{IsOver, Play, enough, played, round, rounds, turn};
 
@@ -92,9 +92,9 @@ fn turn_of(words: &mut Plain, mon: &mut Mon, script: &Script, harts: &mut Harts,
 // A turn of a hart: a walk, an entry, or nothing. Says whether it changed anything.
 fn take_turn(words: &mut Plain, mon: &mut Mon, script: &Script, hart: &mut HartState) -> bool
     requires kept { IsKept script.now words.old mon.old }
-    requires fits { Fits script.now mon.old.history (value_of hart.old) }
+    requires fits { Fits script.now mon.old.history (hart_value hart.old) }
     ensures kept { IsKept script.now words.new mon.new }
-    ensures turned { IsTurned script.now mon.old.history mon.new.history (value_of hart.old) (value_of hart.new) result }
+    ensures turned { IsTurned script.now mon.old.history mon.new.history (hart_value hart.old) (hart_value hart.new) result }
 {
     let Some(line) = line_at(script, hart.place) else {
         return false;

@@ -11,7 +11,7 @@ ghost use Rattle.cove_core.specs.Reached.{IsPrepared};
 ghost use Rattle.cove_core.specs.Stepped.{IsAhead, IsBehind, IsFirst, IsLimit, IsStill, OnAhead, OnDid};
 ghost use Rattle.cove_model.specs.LawfulCounts.{CountsEntries};
 ghost use Rattle.cove_model.specs.LawfulStores.{AllowsLawful};
-ghost use Rattle.cove_hart.specs.HartStates.{value_of};
+ghost use Rattle.cove_hart.specs.HartStates.{hart_value};
 ghost use Rattle.cove_model.specs.Fits.{Fits};
 
 use crate::accesses::perform;
@@ -20,7 +20,7 @@ use cove_base::{ENTRY_LIMIT, Entry, Event, HartId, Script, Words, count_word};
 use cove_hart::HartState;
 
 /// What came of an event that a hart was about to make.
-#[derive(Clone, Copy, Debug, PartialEq, Eq)]
+#[derive(Clone, Copy)]
 pub enum Stepped {
     /// The hart made it, and its entry stands at this place of the history.
     Did(usize),
@@ -39,22 +39,22 @@ pub fn event_step<W: Words>(
     hart: &mut HartState,
 ) -> Stepped
     requires kept { IsKept script.now (W.words w.old) mon.old }
-    requires fits { Fits script.now mon.old.history (value_of hart.old) }
-    requires prepared { IsPrepared script.now (value_of hart.old) }
+    requires fits { Fits script.now mon.old.history (hart_value hart.old) }
+    requires prepared { IsPrepared script.now (hart_value hart.old) }
     requires allowed { AllowsLawful (W.allows (W.guard w.old)) script.now.pages script.now.harts no_tables hart.old.hart.0 (W.words w.old) }
     requires counted { CountsEntries (W.counts (W.guard w.old)) script.now mon.old.history hart.old.hart.0 }
     ensures made { OnDid result (λ place. IfSome (slice_get mon.new.history place) (λ entry.
-        IsMade script.now (W.words w.old) (W.words w.new) mon.old mon.new (value_of hart.old) (value_of hart.new) entry)) }
+        IsMade script.now (W.words w.old) (W.words w.new) mon.old mon.new (hart_value hart.old) (hart_value hart.new) entry)) }
     ensures entry { OnDid result (λ place. (place ≡ length mon.old.history) × IsSome (slice_get mon.new.history place)) }
     ensures guard { OnDid result (λ place. IfSome (slice_get mon.new.history place) (λ entry.
         W.guard w.new ≡ guard_after (W.guard w.old) (W.words w.new) entry)) }
     ensures clean { OnDid result (λ _. W.clean w.new ≡ true) }
     ensures used { OnDid result (λ _. hart.new.walked ≡ None) }
     ensures limit { IsLimit result ↔ (ENTRY_LIMIT ≤ length mon.old.history) }
-    ensures ahead { OnAhead result (λ other. IsBehind script.now mon.old.history (value_of hart.old) other.0) }
+    ensures ahead { OnAhead result (λ other. IsBehind script.now mon.old.history (hart_value hart.old) other.0) }
     ensures behind { (other : ℕ) → IsAhead result other
-        ↔ ((length mon.old.history < ENTRY_LIMIT) × IsBehind script.now mon.old.history (value_of hart.old) other) }
-    ensures due { OnDid result (λ _. IsFirst script.now mon.old.history (value_of hart.old)) }
+        ↔ ((length mon.old.history < ENTRY_LIMIT) × IsBehind script.now mon.old.history (hart_value hart.old) other) }
+    ensures due { OnDid result (λ _. IsFirst script.now mon.old.history (hart_value hart.old)) }
     ensures still { IsStill result
         ((W.words w.new ≡ W.words w.old) × (W.guard w.new ≡ W.guard w.old) × (W.clean w.new ≡ W.clean w.old)
         × (mon.new ≡ mon.old) × (hart.new ≡ hart.old)) }
@@ -77,11 +77,11 @@ pub fn event_step<W: Words>(
 // Counts the entry of an event that a hart has made, by the last store, and ends the hart's line.
 fn enter<W: Words>(w: &mut W, mon: &mut Mon, script: &Script, hart: &mut HartState, event: Event)
     requires limits { IsTrue (is_within_limits script.now) }
-    requires performed { IsPerformed script.now (W.words w.old) mon.old (value_of hart.old) event }
+    requires performed { IsPerformed script.now (W.words w.old) mon.old (hart_value hart.old) event }
     requires room { length mon.old.history < ENTRY_LIMIT }
     requires counted { CountsEntries (W.counts (W.guard w.old)) script.now mon.old.history hart.old.hart.0 }
     ensures kept { IsKept script.now (W.words w.new) mon.new }
-    ensures fits { Fits script.now mon.new.history (value_of hart.new) }
+    ensures fits { Fits script.now mon.new.history (hart_value hart.new) }
     ensures grown { mon.new.history ≡ mon.old.history ++ (record { hart = hart.old.hart; event = event }) ∷ [] }
     ensures hart { hart.new.hart ≡ hart.old.hart }
     ensures hosts { hart.new.hosts ≡ hart.old.hosts }

@@ -2,9 +2,9 @@
 
 ghost use Rattle.std.specs.Prelude.{◌≡◌, ◌<◌, ◌^◌, length, slice_index};
 ghost use Rattle.cove_base.specs.PageWords.{IsPageWord};
-ghost use Rattle.cove_base.specs.HartPlaces.{IsPlace};
+ghost use Rattle.cove_base.specs.HartPlaces.{IsNextPlace};
 ghost use Rattle.cove_core.specs.Walks.{HavePageWords, IsFoundIn, IsWalked};
-ghost use Rattle.cove_hart.specs.HartStates.{value_of};
+ghost use Rattle.cove_hart.specs.HartStates.{hart_value};
 ghost use Rattle.cove_hart.specs.Needs.{next_need};
 ghost use Rattle.cove_hart.specs.declared.needs.Need.TheVariants.{Walk};
 ghost use Rattle.cove_base.specs.declared.walks.Target.{Target};
@@ -35,10 +35,10 @@ fn walk<W: Words>(w: &mut W, page: Page) -> Walked
 
 /// Makes the walk that a hart needs before its next event, and notes it: one load of a page word.
 pub fn walk_step<W: Words>(w: &mut W, script: &Script, hart: &mut HartState, phase: u32)
-    requires place { IsPlace script.now hart.old.hart.0 hart.old.ended hart.old.place }
-    requires needed { (target : Target) × (next_need script.now (value_of hart.old) phase ≡ Walk target) }
+    requires place { IsNextPlace script.now hart.old.hart.0 hart.old.ended hart.old.place }
+    requires needed { (target : Target) × (next_need script.now (hart_value hart.old) phase ≡ Walk target) }
     requires words { HavePageWords script.now.pages (W.words w.old) }
-    ensures walked { IsWalked script.now (W.words w.old) phase (value_of hart.old) (value_of hart.new) }
+    ensures walked { IsWalked script.now (W.words w.old) phase (hart_value hart.old) (hart_value hart.new) }
     ensures words { W.words w.new ≡ W.words w.old }
     ensures clean { W.clean w.new ≡ W.clean w.old }
     ensures guard { W.guard w.new ≡ W.guard w.old }

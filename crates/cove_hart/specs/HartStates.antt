@@ -2,8 +2,8 @@ use Rattle.cove_base.specs.HartValues.{HartValue}
 use Rattle.cove_hart.specs.declared.states.HartState.{HartState}
 
 -- what a hart holds, as the definitions over histories speak of it
-abbrev pub value_of : HartState → HartValue
-value_of state = record {
+abbrev pub hart_value : HartState → HartValue
+hart_value state = record {
   hart = state.hart.0;
   ended = state.ended;
   place = state.place;

@@ -1,7 +1,7 @@
 use cove_base::Target;
 
 /// What a hart needs next: a walk before its event, its event, or nothing in this phase.
-#[derive(Clone, Copy, Debug, PartialEq, Eq)]
+#[derive(Clone, Copy)]
 pub enum Need {
     Walk(Target),
     Event,

@@ -1,8 +1,8 @@
 ghost use Rattle.std.specs.Prelude.{◌≡◌, ◌+◌, ◌<◌, ◌≤◌, ◌^◌, [], length, drop, filter, slice_get, Some, None, IsSome, IfSome, IfOk};
 ghost use Rattle.cove_base.specs.HartLines.{next_line};
-ghost use Rattle.cove_base.specs.HartPlaces.{is_line_of, IsPlace};
+ghost use Rattle.cove_base.specs.HartPlaces.{is_line_of, IsNextPlace};
 ghost use Rattle.cove_base.specs.HartValues.{accessed_page, after_walk, has_walked_to, ring_finds};
-ghost use Rattle.cove_hart.specs.HartStates.{value_of};
+ghost use Rattle.cove_hart.specs.HartStates.{hart_value};
 ghost use Rattle.cove_hart.specs.Needs.{access_need, next_need};
 
 use crate::needs::Need;
@@ -24,14 +24,14 @@ pub struct HartState {
 impl HartState {
     /// A hart that has ended no line, found no page and made no walk.
     pub fn new(alloc: Global, hart: HartId, script: &Script) -> Result<Self, NoMemory>
-        ensures fresh { IfOk result (λ state. value_of state ≡ record {
+        ensures fresh { IfOk result (λ state. hart_value state ≡ record {
           hart = hart.0;
           ended = 0;
           place = state.place;
           hosts = [];
           walked = None;
         }) }
-        ensures place { IfOk result (λ state. IsPlace script.now hart.0 0 state.place) }
+        ensures place { IfOk result (λ state. IsNextPlace script.now hart.0 0 state.place) }
     {
         Ok(HartState {
             hart,
@@ -44,8 +44,8 @@ impl HartState {
 
     /// What the hart needs next, while lines up to a phase may be made.
     pub fn next(&self, script: &Script, phase: u32) -> Need
-        requires { IsPlace script.now self.now.hart.0 self.now.ended self.now.place }
-        ensures { result ≡ next_need script.now (value_of self.now) phase }
+        requires { IsNextPlace script.now self.now.hart.0 self.now.ended self.now.place }
+        ensures { result ≡ next_need script.now (hart_value self.now) phase }
     {
         match self.next_line(script) {
             Some(line) if line.phase <= phase => self.need(line.line),
@@ -55,7 +55,7 @@ impl HartState {
 
     // The hart's next line, where there is one.
     fn next_line(&self, script: &Script) -> Option<ScriptLine>
-        requires { IsPlace script.now self.now.hart.0 self.now.ended self.now.place }
+        requires { IsNextPlace script.now self.now.hart.0 self.now.ended self.now.place }
         ensures line { result ≡ next_line script.now self.now.hart.0 self.now.ended }
         ensures small { IfSome result (λ line. IfSome (accessed_page line.line) (λ page. page < 2 ^ 32)) }
     {
@@ -65,7 +65,7 @@ impl HartState {
     // What a line needs.
     fn need(&self, line: Line) -> Need
         requires { IfSome (accessed_page line) (λ page. page < 2 ^ 32) }
-        ensures { result ≡ access_need (value_of self.now) (accessed_page line) }
+        ensures { result ≡ access_need (hart_value self.now) (accessed_page line) }
     {
         match line {
             Line::Call(_) => Need::Event,
@@ -76,7 +76,7 @@ impl HartState {
     // What an access of a page needs.
     fn access(&self, page: u64) -> Need
         requires { page < 2 ^ 32 }
-        ensures { result ≡ access_need (value_of self.now) (Some page) }
+        ensures { result ≡ access_need (hart_value self.now) (Some page) }
     {
         if self.hosts.find(page).is_some() || self.has_walked_to(page) {
             return Need::Event;
@@ -100,7 +100,7 @@ impl HartState {
     /// Keeps a walk, and puts the page into the ring where it found one. The ring does not name the target yet.
     pub fn note(&mut self, target: Target, walked: Walked)
         requires { ring_finds self.old.hosts target ≡ None }
-        ensures { value_of self.new ≡ after_walk (value_of self.old) target walked }
+        ensures { hart_value self.new ≡ after_walk (hart_value self.old) target walked }
     {
         if let (Target::Host(key), Walked::Found(page)) = (target, walked) {
             self.hosts.fill(u64::from(key.0), page);
@@ -110,10 +110,10 @@ impl HartState {
 
     /// Ends the hart's next line, and finds the place of the one after it.
     pub fn end_line(&mut self, script: &Script)
-        requires place { IsPlace script.now self.old.hart.0 self.old.ended self.old.place }
+        requires place { IsNextPlace script.now self.old.hart.0 self.old.ended self.old.place }
         requires left { IsSome (next_line script.now self.old.hart.0 self.old.ended) }
         requires few { self.old.ended + 1 < 2 ^ 32 }
-        ensures place { IsPlace script.now self.new.hart.0 self.new.ended self.new.place }
+        ensures place { IsNextPlace script.now self.new.hart.0 self.new.ended self.new.place }
         ensures ended { self.new ≡ record self.old { ended = self.old.ended + 1; place = self.new.place } }
     {
         self.ended += 1;

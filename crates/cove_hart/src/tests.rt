@@ -45,15 +45,17 @@ fn a_hart_walks_uses_its_walk_and_waits(rt: HostRuntime) -> Result<(), Fail> {
     let script = script(alloc)?;
     let target = Target::Host(Page(4));
     let mut hart = HartState::new(alloc, HartId(0), &script)?;
-    assert_eq!(rt; hart.next(&script, 0), Need::Walk(target));
+    assert!(rt; matches!(hart.next(&script, 0), Need::Walk(Target::Host(Page(4)))));
     hart.note(target, Walked::Found(Page(4)));
-    assert_eq!(rt; hart.next(&script, 0), Need::Event);
-    assert_eq!(rt;
-        hart.walked,
-        Some(Noted {
-            target,
-            walked: Walked::Found(Page(4))
-        })
+    assert!(rt; matches!(hart.next(&script, 0), Need::Event));
+    assert!(rt;
+        matches!(
+            hart.walked,
+            Some(Noted {
+                target: Target::Host(Page(4)),
+                walked: Walked::Found(Page(4))
+            })
+        )
     );
     Ok(())
 }

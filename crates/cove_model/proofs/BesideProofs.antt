@@ -3,7 +3,7 @@ use Rattle.std.proofs.Common.{◌≡◌, ◌≢◌, ℕ, ◌+◌, ◌<◌, ◌�
 use Rattle.cove_base.specs.Places.{Place, PageWord, TableWord, EpochWord, AnsweredWord, TvmWord, HartWord, CountWord, IsPlace, place_of, table_word, epoch_word, answered_word, tvm_word, hart_word}
 use Rattle.cove_model.specs.Owners.{Owner, Host, Converting, Free, Given, page_at}
 use Rattle.cove_model.specs.States.{State}
-use Rattle.cove_model.specs.WordsStand.{OwnersStand, PageStands, IsOver, WaitsFor, epoch_in, answered_in, maps_of, harts_behind}
+use Rattle.cove_model.specs.WordsStand.{OwnersStand, PageStands, IsAnsweredByAll, WaitsFor, epoch_in, answered_in, maps_of, harts_behind}
 use Rattle.cove_model.specs.WordLaws.{Stand, IsBeside, OthersLeaveOwners, NumbersLeaveWords, CountLeavesWords}
 use Rattle.cove_model.proofs.HartLists.{filter_harts}
 use Rattle.cove_model.proofs.StandLemmas.{page_moves}
@@ -29,7 +29,7 @@ page_agrees harts epoch before after same maps word (Converting held waiting wor
     waits (Some w) h = (h.0, h.1 ∙ behind_agree harts before after (stands.since + 1) same)
 page_agrees harts epoch before after same maps word Free (inl is) = inl is
 page_agrees harts epoch before after same maps word Free (inr stands) =
-    let over : IsOver harts after stands.0 = λ k within. let was : stands.0 < before k = stands.2 k within in let at : after k ≡ before k = same k within in omega arith in
+    let over : IsAnsweredByAll harts after stands.0 = λ k within. let was : stands.0 < before k = stands.2 k within in let at : after k ≡ before k = same k within in omega arith in
     inr (stands.0, stands.1, over)
 page_agrees harts epoch before after same maps word (Given tvm purpose) stands = stands
 

@@ -1,6 +1,6 @@
 -- What a hart holds keeps fitting, whatever other harts do.
 use Rattle.cove_base.specs.HartLines.{next_line}
-use Rattle.cove_base.specs.HartPlaces.{IsPlace}
+use Rattle.cove_base.specs.HartPlaces.{IsNextPlace}
 use Rattle.cove_base.specs.HartValues.{HartValue, after_walk, hosts_after}
 use Rattle.cove_base.specs.Rings.{found, keep_last, ring_room}
 use Rattle.cove_base.specs.Scripts.{ScriptValue}
@@ -103,7 +103,7 @@ ring_finds_page (q ∷ pages) p = go (eqb q p) refl (ring_finds_page pages p)
 -- ---- an entry of the hart's own
 
 -- after an entry of its own a hart has ended one more line, has no walk, and its ring is what the entry leaves
-pub fits_entered : (script : ScriptValue) (H : List Entry) (e : Entry) (held : HartValue) (place : ℕ) → Fits script H held → e.hart.0 ≡ held.hart → IsPlace script held.hart (held.ended + 1) place → Fits script (H ++ e ∷ []) (after_own script H e held place)
+pub fits_entered : (script : ScriptValue) (H : List Entry) (e : Entry) (held : HartValue) (place : ℕ) → Fits script H held → e.hart.0 ≡ held.hart → IsNextPlace script held.hart (held.ended + 1) place → Fits script (H ++ e ∷ []) (after_own script H e held place)
 fits_entered script H e held place fits same stands =
     let S = after script H in
     let size = (board_of script H).same_lists in

@@ -4,14 +4,14 @@ use Rattle.std.proofs.lemmas.Bool.{cases_eq, false≢true}
 use Rattle.cove_base.specs.PageWords.{converting}
 use Rattle.cove_model.specs.Owners.{Owner, Host, Converting, Free, Given, has, without, settled, converted, fenced, answered}
 use Rattle.cove_model.specs.States.{harts_below}
-use Rattle.cove_model.specs.WordsStand.{PageStands, IsOver, harts_behind}
+use Rattle.cove_model.specs.WordsStand.{PageStands, IsAnsweredByAll, harts_behind}
 use Rattle.cove_model.proofs.HartLists.{behind_has, none_behind, has_first, others_behind, without-behind}
 use Rattle.cove_model.proofs.Members.{has_with, has_not, below_has}
 
 -- a page that waits for the harts behind: it is free where there is none
 settles : (harts epoch : ℕ) (after : ℕ → ℕ) (maps word : ℕ) (held waiting words : List ℕ) (since : ℕ) → word ≡ converting since → since < epoch → ((k : ℕ) → has k held ≡ true → (k < harts) × (after k ≤ since)) → waiting ≡ harts_behind harts after (since + 1) → PageStands harts epoch after maps word (settled held waiting words)
 settles harts epoch after maps word held [] words since is begun holds waits =
-    let over : IsOver harts after since = λ k within. let up = none_behind harts after (since + 1) waits k within in omega arith in
+    let over : IsAnsweredByAll harts after since = λ k within. let up = none_behind harts after (since + 1) waits k within in omega arith in
     inr (since, is, over)
 settles harts epoch after maps word held (x ∷ xs) words since is begun holds waits =
     let first = behind_has harts after (since + 1) x (subst (λ ys. has x ys ≡ true) waits (has_first x xs)) in
@@ -57,7 +57,7 @@ fenced_page harts hart epoch before after on all own others maps word (Convertin
     absurd (omega (arith, stands.pending.2, stands.waits.0))
 fenced_page harts hart epoch before after on all own others maps word Free (inl is) = inl is
 fenced_page harts hart epoch before after on all own others maps word Free (inr stands) =
-    let over : IsOver harts after stands.0 = λ k within. let was : stands.0 < before k = stands.2 k within in let at : before k ≡ epoch = all k within in elim (cases_eq k hart) [
+    let over : IsAnsweredByAll harts after stands.0 = λ k within. let was : stands.0 < before k = stands.2 k within in let at : before k ≡ epoch = all k within in elim (cases_eq k hart) [
       | inl is ↦ let up : after k ≡ epoch + 1 = ap after is ∙ own in omega arith
       | inr ne ↦ let same : after k ≡ before k = others k ne in omega arith
     ] in
@@ -79,7 +79,7 @@ answered_page harts hart epoch before after on within own others maps word (Conv
     settles harts epoch after maps word (without hart held) (without hart waiting) words stands.since stands.is stands.waits.0 (holds_without harts hart before after held stands.since others stands.holds) (ap (without hart) stands.waits.1 ∙ without-behind harts hart before after (stands.since + 1) (omega (arith, stands.waits.0)) others)
 answered_page harts hart epoch before after on within own others maps word Free (inl is) = inl is
 answered_page harts hart epoch before after on within own others maps word Free (inr stands) =
-    let over : IsOver harts after stands.0 = λ k on'. let was : stands.0 < before k = stands.2 k on' in let most : before k ≤ epoch = within k on' in elim (cases_eq k hart) [
+    let over : IsAnsweredByAll harts after stands.0 = λ k on'. let was : stands.0 < before k = stands.2 k on' in let most : before k ≤ epoch = within k on' in elim (cases_eq k hart) [
       | inl is ↦ let up : after k ≡ epoch = ap after is ∙ own in omega arith
       | inr ne ↦ let same : after k ≡ before k = others k ne in omega arith
     ] in

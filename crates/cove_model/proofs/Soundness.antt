@@ -12,10 +12,10 @@ use Rattle.cove_model.proofs.Runs.{change_cases, length_change, opening_length, 
 use Rattle.cove_model.specs.Effects.{effect, refusal, state_by}
 use Rattle.cove_model.specs.Examples.{board, call}
 use Rattle.cove_model.specs.Histories.{after}
-use Rattle.cove_model.specs.Owners.{Converting, Free, Given, Host, Owner, answered, converted, fenced, has, page_at, reclaimed, settled, stored, without}
+use Rattle.cove_model.specs.Owners.{Converting, Free, Given, Host, Owner, answered, converted, fenced, has, page_at, reclaimed, settled, word_stored, without}
 use Rattle.cove_model.specs.Refusals.{first_failing}
 use Rattle.cove_model.specs.Sound.{IsBoardOf, IsSound, IsSoundPage, Rises, Within}
-use Rattle.cove_model.specs.States.{State, harts_below, opening, page_of, place_of}
+use Rattle.cove_model.specs.States.{State, harts_below, opening, page_of, word_place}
 use Rattle.cove_model.specs.Steps.{after_event, done}
 use Rattle.std.proofs.Common.{List, None, Option, Some, T, [], ap, arith, inl, inr, length, length-set, lt-ltb, nat_lt, refl, slice_index, subst, suc, sym, true, ℕ, ⊎_elim, ◌/◌, ◌∙◌, ◌∷◌, ◌≡◌, ◌⊎◌}
 use Rattle.std.proofs.lemmas.Bool.{cases_eq, cases_lt, cond-true}
@@ -30,7 +30,7 @@ pub data Move (S T : State) (h : ℕ) (old new : Owner) : Type 0 where
   Same : T.unanswered ≡ S.unanswered → new ≡ old → Move S T h old new
   Converts : T.unanswered ≡ S.unanswered → new ≡ converted (harts_below S.harts) old → Move S T h old new
   Reclaims : T.unanswered ≡ S.unanswered → new ≡ reclaimed old → Move S T h old new
-  Stores : (place value : ℕ) → T.unanswered ≡ S.unanswered → new ≡ stored place value old → Move S T h old new
+  Stores : (place value : ℕ) → T.unanswered ≡ S.unanswered → new ≡ word_stored place value old → Move S T h old new
   Fences : S.unanswered ≡ [] → T.unanswered ≡ without h (harts_below S.harts) → new ≡ fenced h (without h (harts_below S.harts)) old → Move S T h old new
   Responds : T.unanswered ≡ without h S.unanswered → new ≡ answered h old → Move S T h old new
 
@@ -54,7 +54,7 @@ move_call S h call p (Some reply) e = Same refl refl
 
 pub moves : (S : State) (h : ℕ) (event : Event) (p : ℕ) → Move S (done S h event) h (page_at S.pages p) (page_at (done S h event).pages p)
 moves S h (events.Call call reply) p = move_call S h call p (refusal S h call) refl
-moves S h (events.Store addr value how) p = ⊎_elim (λ e. Same refl e) (λ e. Stores (place_of addr) value refl e) (change_cases (stored (place_of addr) value) (page_of addr) 1 S.pages p)
+moves S h (events.Store addr value how) p = ⊎_elim (λ e. Same refl e) (λ e. Stores (word_place addr) value refl e) (change_cases (word_stored (word_place addr) value) (page_of addr) 1 S.pages p)
 moves S h _ p = Same refl refl
 
 -- ---- soundness
@@ -92,7 +92,7 @@ sound_reclaimed S (Converting held waiting words) sound = sound
 sound_reclaimed S Free sound = zeros_size
 sound_reclaimed S (Given tvm purpose) sound = tt
 
-sound_stored : (S : State) (place value : ℕ) (o : Owner) → IsSoundPage S o → IsSoundPage S (stored place value o)
+sound_stored : (S : State) (place value : ℕ) (o : Owner) → IsSoundPage S o → IsSoundPage S (word_stored place value o)
 sound_stored S place value (Host words) sound = length-set words place value ∙ sound
 sound_stored S place value (Converting held None words) sound = (length-set words place value ∙ sound.0, sound.1)
 sound_stored S place value (Converting held (Some waiting) words) sound = (length-set words place value ∙ sound.0, sound.1, sound.2, sound.3)
@@ -121,7 +121,7 @@ sound_move : (S T : State) (h : ℕ) (old new : Owner) → T.harts ≡ S.harts �
 sound_move S T h old new e (Same u q) sound = subst (IsSoundPage T) (sym q) (sound_same S T old e u sound)
 sound_move S T h old new e (Converts u q) sound = subst (IsSoundPage T) (sym q) (sound_same S T (converted (harts_below S.harts) old) e u (sound_converted S old sound))
 sound_move S T h old new e (Reclaims u q) sound = subst (IsSoundPage T) (sym q) (sound_same S T (reclaimed old) e u (sound_reclaimed S old sound))
-sound_move S T h old new e (Stores place value u q) sound = subst (IsSoundPage T) (sym q) (sound_same S T (stored place value old) e u (sound_stored S place value old sound))
+sound_move S T h old new e (Stores place value u q) sound = subst (IsSoundPage T) (sym q) (sound_same S T (word_stored place value old) e u (sound_stored S place value old sound))
 sound_move S T h old new e (Fences all u q) sound = subst (IsSoundPage T) (sym q) (sound_fenced S T h old all u sound)
 sound_move S T h old new e (Responds u q) sound = subst (IsSoundPage T) (sym q) (sound_answered S T h old e u sound)
 
@@ -205,7 +205,7 @@ board_done script S h (events.Store addr value how) board = record {
   same_harts = board.same_harts;
   same_files = board.same_files;
   same_key = board.same_key;
-  same_pages = length_change (stored (place_of addr) value) (page_of addr) 1 S.pages ∙ board.same_pages;
+  same_pages = length_change (word_stored (word_place addr) value) (page_of addr) 1 S.pages ∙ board.same_pages;
   same_lists = board.same_lists;
 }
 board_done script S h _ board = board

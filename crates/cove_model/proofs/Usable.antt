@@ -18,9 +18,9 @@ use Rattle.cove_model.specs.Cached.{WasHost}
 use Rattle.cove_model.specs.Effects.{effect, refusal, state_by, value_of}
 use Rattle.cove_model.specs.Examples.{call}
 use Rattle.cove_model.specs.Histories.{Legal, after, own}
-use Rattle.cove_model.specs.Owners.{Converting, Free, Given, Host, Owner, TheHost, answered, change, converted, fenced, has, holder, is_host, may_use, page_at, reclaimed, settled, stored, without}
+use Rattle.cove_model.specs.Owners.{Converting, Free, Given, Host, Owner, TheHost, answered, change, converted, fenced, has, holder, is_host, may_use, page_at, reclaimed, settled, word_stored, without}
 use Rattle.cove_model.specs.Sound.{IsSound, IsSoundPage}
-use Rattle.cove_model.specs.States.{State, ended_by, harts_below, page_of, place_of}
+use Rattle.cove_model.specs.States.{State, ended_by, harts_below, page_of, word_place}
 use Rattle.cove_model.specs.Steps.{Answers, after_event, asked, done}
 use Rattle.cove_base.specs.Statuses.{is_success}
 use Rattle.cove_model.specs.Tlbs.{Tlb, after_call, nothing_held, renewed, tlb}
@@ -48,7 +48,7 @@ use_reclaimed h (Converting held waiting words) e = e
 use_reclaimed h Free e = false-true e
 use_reclaimed h (Given tvm purpose) e = e
 
-use_stored : (h place value : ℕ) (o : Owner) → may_use h o ≡ true → may_use h (stored place value o) ≡ true
+use_stored : (h place value : ℕ) (o : Owner) → may_use h o ≡ true → may_use h (word_stored place value o) ≡ true
 use_stored h place value (Host words) e = refl
 use_stored h place value (Converting held waiting words) e = e
 use_stored h place value Free e = e
@@ -135,7 +135,7 @@ use_own : (S : State) (h : ℕ) (held : Tlb) (event : Event) (p : ℕ) → h < S
 use_own S h held (events.Call call reply) p lt right use' e = use_call S h held call p (refusal S h call) lt use' (subst (λ (r : Reply). has p (after_call call (is_success r.status) held).pages ≡ true) right e)
 use_own S h held (events.Load addr how value) p lt right use' e = use'
 use_own S h held (events.LoadFault addr) p lt right use' e = use'
-use_own S h held (events.Store addr value how) p lt right use' e = use_changed (stored (place_of addr) value) (page_of addr) 1 S.pages h p (use_stored h (place_of addr) value) use'
+use_own S h held (events.Store addr value how) p lt right use' e = use_changed (word_stored (word_place addr) value) (page_of addr) 1 S.pages h p (use_stored h (word_place addr) value) use'
 use_own S h held (events.StoreFault addr value) p lt right use' e = use'
 use_own S h held (events.Fetch how) p lt right use' e = absurd right
 use_own S h held events.Exec p lt right use' e = absurd right

@@ -1,7 +1,7 @@
 -- What one hart holds fits a history. Neither the shared words nor any other hart is looked at.
 use Rattle.std.specs.Prelude.{◌≡◌, ◌<◌, ◌+◌, ℕ, false, List, map, Option, Some, None}
 use Rattle.cove_base.specs.HartLines.{next_line}
-use Rattle.cove_base.specs.HartPlaces.{IsPlace}
+use Rattle.cove_base.specs.HartPlaces.{IsNextPlace}
 use Rattle.cove_base.specs.HartValues.{HartValue, accessed_page, hosts_after}
 use Rattle.cove_base.specs.Scripts.{ScriptValue}
 use Rattle.cove_base.specs.declared.events.Entry.{Entry}
@@ -51,7 +51,7 @@ UnusedFits script history hart (Some noted) = WalkFits script history hart noted
 pub record Fits (script : ScriptValue) (history : List Entry) (held : HartValue) : Type 0 where
   pub on_board : held.hart < script.harts
   pub counts : held.ended ≡ ended_by (after script history) held.hart
-  pub stands : IsPlace script held.hart held.ended held.place
+  pub stands : IsNextPlace script held.hart held.ended held.place
   pub ring : held.hosts ≡ walked_ring (ring_of (tlb script history held.hart).pages) held.walked
   pub walk : UnusedFits script history held.hart held.walked
 

@@ -68,10 +68,10 @@ reclaimed Free = Host zeros
 reclaimed owner = owner
 
 -- a page after a word of it was written
-abbrev pub stored : (place value : ℕ) → Owner → Owner
-stored place value (Host words) = Host (slice_set words place value)
-stored place value (Converting held waiting words) = Converting held waiting (slice_set words place value)
-stored place value owner = owner
+abbrev pub word_stored : (place value : ℕ) → Owner → Owner
+word_stored place value (Host words) = Host (slice_set words place value)
+word_stored place value (Converting held waiting words) = Converting held waiting (slice_set words place value)
+word_stored place value owner = owner
 
 -- the words that the host sees of a page
 abbrev pub words_of : Owner → List ℕ

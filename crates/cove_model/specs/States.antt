@@ -29,12 +29,12 @@ abbrev pub page_of : (addr : ℕ) → ℕ
 page_of addr = addr / 4096
 
 -- the place of the word of a byte address in its page
-abbrev pub place_of : (addr : ℕ) → ℕ
-place_of addr = addr / 8 % 512
+abbrev pub word_place : (addr : ℕ) → ℕ
+word_place addr = addr / 8 % 512
 
 -- the word that the host sees at an address
 abbrev pub word_at : State → (addr : ℕ) → ℕ
-word_at S addr = slice_index (words_of (page_at S.pages (page_of addr))) (place_of addr)
+word_at S addr = slice_index (words_of (page_at S.pages (page_of addr))) (word_place addr)
 
 -- the pages that are mapped shared in a TVM: there is no TVM yet
 abbrev pub shared_pages : State → List ℕ

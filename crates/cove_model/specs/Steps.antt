@@ -1,8 +1,8 @@
 -- The legal step: which event a hart may make, and the state after it.
 use Rattle.std.specs.Prelude.{true, false, ◌≡◌, ℕ, ◌+◌, slice_set, Option, Some, None}
 use Rattle.cove_model.specs.Types.{ScriptValue, Entry, Event, Line}
-use Rattle.cove_model.specs.Owners.{is_host, may_use, stored, page_at, change}
-use Rattle.cove_model.specs.States.{State, ended_by, page_of, place_of, word_at}
+use Rattle.cove_model.specs.Owners.{is_host, may_use, word_stored, page_at, change}
+use Rattle.cove_model.specs.States.{State, ended_by, page_of, word_place, word_at}
 use Rattle.cove_model.specs.Effects.{reply_to, state_after}
 use Rattle.cove_model.specs.Offers.{Next, offer}
 
@@ -57,7 +57,7 @@ done S h (Event.Call call reply) = state_after S h call
 done S h (Event.Load addr how value) = S
 done S h (Event.LoadFault addr) = S
 done S h (Event.Store addr value how) =
-    record S { pages = change (stored (place_of addr) value) (page_of addr) 1 S.pages }
+    record S { pages = change (word_stored (word_place addr) value) (page_of addr) 1 S.pages }
 done S h (Event.StoreFault addr value) = S
 done S h (Event.Fetch how) = S
 done S h Event.Exec = S

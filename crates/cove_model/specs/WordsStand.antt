@@ -33,8 +33,8 @@ abbrev pub harts_behind : (harts : ℕ) (answered : ℕ → ℕ) (number : ℕ) 
 harts_behind harts answered number = filter (λ hart. nat_lt (answered hart) number) (harts_below harts)
 
 -- every hart has answered more than the epoch at a convert
-abbrev pub IsOver : (harts : ℕ) (answered : ℕ → ℕ) (since : ℕ) → Type 0
-IsOver harts answered since = (hart : ℕ) → hart < harts → since < answered hart
+abbrev pub IsAnsweredByAll : (harts : ℕ) (answered : ℕ → ℕ) (since : ℕ) → Type 0
+IsAnsweredByAll harts answered since = (hart : ℕ) → hart < harts → since < answered hart
 
 -- The harts that a page in conversion since an epoch waits for: none is known before a later global fence, and then
 -- those that have answered no later epoch.
@@ -56,7 +56,7 @@ pub record Pends (harts epoch : ℕ) (answered : ℕ → ℕ) (word : ℕ) (held
 -- the word of a free page
 abbrev pub FreeStands : (harts : ℕ) (answered : ℕ → ℕ) (word : ℕ) → Type 0
 FreeStands harts answered word =
-    (word ≡ released) ⊎ ((since : ℕ) × (word ≡ converting since) × IsOver harts answered since)
+    (word ≡ released) ⊎ ((since : ℕ) × (word ≡ converting since) × IsAnsweredByAll harts answered since)
 
 -- a page word stands for an owner, by the epoch, the answered numbers and the number of shared mappings
 abbrev pub PageStands : (harts epoch : ℕ) (answered : ℕ → ℕ) (maps word : ℕ) → Owner → Type 0

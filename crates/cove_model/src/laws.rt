@@ -2,7 +2,7 @@
 //! script, state and history.
 
 ghost use Rattle.std.specs.Prelude.{◌≡◌, ◌+◌, ◌<◌, ◌≤◌, ◌↔◌, ℕ, List, [], ◌∷◌, ◌++◌, length, Some, None, true, false, IsTrue, codes};
-ghost use Rattle.cove_base.specs.HartPlaces.{IsPlace};
+ghost use Rattle.cove_base.specs.HartPlaces.{IsNextPlace};
 ghost use Rattle.cove_base.specs.HartValues.{HartValue, after_walk};
 ghost use Rattle.cove_base.specs.Scripts.{ScriptValue, is_within_limits};
 ghost use Rattle.cove_base.specs.declared.calls.HostCall.{HostCall};
@@ -123,7 +123,7 @@ pub fn harts_keep_fitting()
         → Fits script history held → held.walked ≡ None → IsSought script history held.hart p.0
         → Fits script history (after_walk held (Host p) (Missing word)) }
     ensures entered { (script : ScriptValue) (history : List Entry) (entry : Entry) (held : HartValue) (place : ℕ)
-        → Fits script history held → entry.hart.0 ≡ held.hart → IsPlace script held.hart (held.ended + 1) place
+        → Fits script history held → entry.hart.0 ≡ held.hart → IsNextPlace script held.hart (held.ended + 1) place
         → Fits script (history ++ entry ∷ []) (after_own script history entry held place) }
 {}
 

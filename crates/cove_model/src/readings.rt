@@ -1,7 +1,7 @@
 use cove_base::{Bytes, Fills, Lines, Turns};
 
 /// The part of a script that the next line stands in.
-#[derive(Clone, Copy, Debug, PartialEq, Eq)]
+#[derive(Clone, Copy, PartialEq)]
 pub enum Place {
     /// Before the line `board`.
     Start,

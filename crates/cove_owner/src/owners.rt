@@ -143,7 +143,7 @@ mod tests {
             first: Page(1),
             count: 3,
         };
-        assert_eq!(rt; state(&mut words, Page(2)), PageState::Host { maps: 0 });
+        assert!(rt; matches!(state(&mut words, Page(2)), PageState::Host { maps: 0 }));
         assert!(rt; all_host(&mut words, range));
         assert!(rt; !any_mapped(&mut words, range));
         assert!(rt; !all_free(&mut words, range, 9));

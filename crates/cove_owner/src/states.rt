@@ -5,7 +5,7 @@ ghost use Rattle.cove_owner.specs.States.{word_of, IsWithin, WordsTellStates, St
 use cove_base::{Role, TvmId};
 
 /// What a page word says of its page.
-#[derive(Clone, Copy, Debug, PartialEq, Eq)]
+#[derive(Clone, Copy)]
 pub enum PageState {
     /// The host's, and mapped shared so many times.
     Host { maps: u32 },

@@ -25,10 +25,10 @@ use Rattle.cove_journal.specs.Forms.{is_byte, is_event_shown, is_sized, is_word}
 use Rattle.cove_journal.specs.Journals.{is_readable}
 use Rattle.cove_model.specs.Effects.{effect, refusal, reply_to, state_by, value_of}
 use Rattle.cove_model.specs.Histories.{Legal, after}
-use Rattle.cove_model.specs.Owners.{Converting, Free, Given, Host, Owner, answered, change, converted, fenced, has, page_at, reclaimed, settled, stored, without, words_of, zeros}
+use Rattle.cove_model.specs.Owners.{Converting, Free, Given, Host, Owner, answered, change, converted, fenced, has, page_at, reclaimed, settled, word_stored, without, words_of, zeros}
 use Rattle.cove_model.specs.Refusals.{AllAnswered, AllFree, AllHost, Aligned, Check, Count, Inside, NoneShared, first_failing}
 use Rattle.cove_model.specs.Sound.{IsSound}
-use Rattle.cove_model.specs.States.{State, byte_after, ended_by, harts_below, opening, opening_byte, opening_words, page_of, place_of}
+use Rattle.cove_model.specs.States.{State, byte_after, ended_by, harts_below, opening, opening_byte, opening_words, page_of, word_place}
 use Rattle.cove_model.specs.Steps.{Allows, Answers, asked, done}
 use Rattle.cove_model.proofs.AtTheEnd.{after_push, from_end, legal_front, legal_last}
 use Rattle.cove_model.proofs.Beginning.{Due, asked_line, due}
@@ -91,7 +91,7 @@ reclaimed_fits (Converting held waiting words) e = e
 reclaimed_fits Free e = zeros_fit
 reclaimed_fits (Given tvm purpose) e = e
 
-stored_fits : (place value : ℕ) (owner : Owner) → is_word value ≡ true → page_fits owner ≡ true → page_fits (stored place value owner) ≡ true
+stored_fits : (place value : ℕ) (owner : Owner) → is_word value ≡ true → page_fits owner ≡ true → page_fits (word_stored place value owner) ≡ true
 stored_fits place value (Host words) v e = set_fits words place value e v
 stored_fits place value (Converting held waiting words) v e = set_fits words place value e v
 stored_fits place value Free v e = e
@@ -120,7 +120,7 @@ call_fits (Some reply) S T before accepted = before
 done_fits : (S : State) (h : ℕ) (event : Event) → is_sized event ≡ true → Fits S → Fits (done S h event)
 done_fits S h (events.Call call reply) sized fits = call_fits (refusal S h call) S (effect S h call) fits (effect_fits S h call fits)
 done_fits S h (events.Store addr value how) sized fits = λ p.
-    change_fits (stored (place_of addr) value) (λ owner e. stored_fits (place_of addr) value owner (and_parts (is_word addr) (is_word value) sized).1 e) (page_of addr) 1 S.pages p (fits p)
+    change_fits (word_stored (word_place addr) value) (λ owner e. stored_fits (word_place addr) value owner (and_parts (is_word addr) (is_word value) sized).1 e) (page_of addr) 1 S.pages p (fits p)
 done_fits S h _ sized fits = fits
 
 -- ---- the opening memory
@@ -239,7 +239,7 @@ event_is_sized S h (events.Call call reply) line few is fits answers ask small =
     and_from _ _ (ap line_fits (same_Some (lines.Call call) line ask) ∙ small) (ap (λ (r : Reply). is_word r.value) answers ∙ reply_fits S h call few is)
 event_is_sized S h (events.Load addr how value) line few is fits answers ask small =
     and_from _ _ (ap line_fits (same_Some (lines.Load addr) line ask) ∙ small)
-    (ap is_word answers.1 ∙ index_fits (words_of (page_at S.pages (page_of addr))) (place_of addr) (fits (page_of addr)))
+    (ap is_word answers.1 ∙ index_fits (words_of (page_at S.pages (page_of addr))) (word_place addr) (fits (page_of addr)))
 event_is_sized S h (events.LoadFault addr) line few is fits answers ask small = ap line_fits (same_Some (lines.Load addr) line ask) ∙ small
 event_is_sized S h (events.Store addr value how) line few is fits answers ask small = ap line_fits (same_Some (lines.Store addr value) line ask) ∙ small
 event_is_sized S h (events.StoreFault addr value) line few is fits answers ask small = ap line_fits (same_Some (lines.Store addr value) line ask) ∙ small

@@ -7,7 +7,7 @@ use std::alloc::{AllocError, AllocFailed};
 use thiserror::Error;
 
 /// Why a text gives no script.
-#[derive(Clone, Copy, Debug, PartialEq, Eq, Error)]
+#[derive(Clone, Copy, Debug, Error)]
 pub enum ParseError {
     /// It has a fault.
     #[error("line {line}: {kind:?}", line = .0.line, kind = .0.kind)]
@@ -26,7 +26,7 @@ impl From<NoMemory> for ParseError {
 }
 
 /// Why a line is not read.
-#[derive(Clone, Copy, Debug, PartialEq, Eq)]
+#[derive(Clone, Copy)]
 pub enum LineFault {
     Refused(Kind),
     Memory,

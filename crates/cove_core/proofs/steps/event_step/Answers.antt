@@ -5,7 +5,7 @@ use Rattle.cove_base.specs.declared.events.Entry.{Entry}
 use Rattle.cove_base.specs.declared.limits.TheConstants.{ENTRY_LIMIT}
 use Rattle.cove_core.proofs.Making.{allows_on, behind_at, can_do, can_on, done_on, entry_from, has_next, last_entry, made, next_at, parts, performed, ready_at, some_last}
 use Rattle.cove_core.specs.Made.{IsMade, IsPerformed}
-use Rattle.cove_hart.specs.HartStates.{value_of}
+use Rattle.cove_hart.specs.HartStates.{hart_value}
 use Rattle.cove_hart.specs.declared.states.HartState.{HartState}
 use Rattle.cove_model.specs.Histories.{after}
 use Rattle.cove_model.specs.Offers.{first_behind}
@@ -13,14 +13,14 @@ use Rattle.cove_core.proofs.steps.event_step.Goals as goal
 
 pub unreachable-requires : goal.unreachable-requires
 unreachable-requires g c =
-    has_next c.args.script.now c.args.mon.now.history (value_of c.args.hart.now) c.requires.fits c.requires.prepared (sym c.line_at.ensures.line ∙ c.in_default.is)
+    has_next c.args.script.now c.args.mon.now.history (hart_value c.args.hart.now) c.requires.fits c.requires.prepared (sym c.line_at.ensures.line ∙ c.in_default.is)
 
 pub returns-in-Some-first_behind-clause-ahead : goal.returns-in-Some-first_behind-clause-ahead
 returns-in-Some-first_behind-clause-ahead g c =
     let script = c.args.script.now in
     let words = g.W.Words.words c.args.w.now in
     let mon = c.args.mon.now in
-    let held = value_of c.args.hart.now in
+    let held = hart_value c.args.hart.now in
     let kept = c.requires.kept in
     let fits = c.requires.fits in
     let within = c.line_at.ensures.within in
@@ -33,7 +33,7 @@ pub returns-in-Some-first_behind-clause-behind : goal.returns-in-Some-first_behi
 returns-in-Some-first_behind-clause-behind g c =
     let script = c.args.script.now in
     let mon = c.args.mon.now in
-    let held = value_of c.args.hart.now in
+    let held = hart_value c.args.hart.now in
     let l = c.in-Some.line in
     let at : slice_get script.lines held.place ≡ Some l = sym c.line_at.ensures.line ∙ c.in-Some.is in
     let next = next_at script mon.history held c.requires.fits l at in
@@ -48,7 +48,7 @@ pub returns-clause-behind : goal.returns-clause-behind
 returns-clause-behind g c =
     let script = c.args.script.now in
     let mon = c.args.mon.now in
-    let held = value_of c.args.hart.now in
+    let held = hart_value c.args.hart.now in
     let l = c.in-Some.line in
     let at : slice_get script.lines held.place ≡ Some l = sym c.line_at.ensures.line ∙ c.in-Some.is in
     let next = next_at script mon.history held c.requires.fits l at in
@@ -64,7 +64,7 @@ perform-event-requires-clause-can g c =
     let script = c.args.script.now in
     let words = g.W.Words.words c.args.w.now in
     let mon = c.args.mon.now in
-    let held = value_of c.args.hart.now in
+    let held = hart_value c.args.hart.now in
     let kept = c.requires.kept in
     let fits = c.requires.fits in
     let within = c.line_at.ensures.within in
@@ -88,7 +88,7 @@ enter-requires-clause-performed g c =
     let script = c.args.script.now in
     let words = g.W.Words.words c.args.w.now in
     let mon = c.args.mon.now in
-    let held = value_of c.args.hart.now in
+    let held = hart_value c.args.hart.now in
     let kept = c.requires.kept in
     let fits = c.requires.fits in
     let within = c.line_at.ensures.within in
@@ -106,14 +106,14 @@ enter-requires-clause-performed g c =
     let did = parts script within words mon kept held fits l at next ready l.line refl now ground.memory hosts event
     (done_on script.pages mon.ground.pages script.harts mon.ground.harts kept.board.pages kept.board.harts words now mon.ground.memory ground.memory held hosts event l.line step.ensures.done) in
     let performed_so = performed script within words mon kept held fits l at next none now ground hosts event step.ensures.board did in
-    subst (λ h. IsPerformed script now (record { ground = ground; history = mon.history; progress = mon.progress }) (value_of h) event) (sym step.ensures.hart) performed_so
+    subst (λ h. IsPerformed script now (record { ground = ground; history = mon.history; progress = mon.progress }) (hart_value h) event) (sym step.ensures.hart) performed_so
 
 pub returns-clause-made : goal.returns-clause-made
 returns-clause-made g c =
     let script = c.args.script.now in
     let words = g.W.Words.words c.args.w.now in
     let mon = c.args.mon.now in
-    let held = value_of c.args.hart.now in
+    let held = hart_value c.args.hart.now in
     let kept = c.requires.kept in
     let fits = c.requires.fits in
     let within = c.line_at.ensures.within in
@@ -135,8 +135,8 @@ returns-clause-made g c =
     let entry : Entry = entry_from c.args.hart.now.hart event in
     let grown : c.enter.new.mon.history ≡ mon.history ++ entry ∷ [] =
     c.enter.ensures.grown ∙ ap (λ h. mon.history ++ entry_from h event ∷ []) hart in
-    last_entry (λ e. IsMade script words (g.W.Words.words c.enter.new.w) mon c.enter.new.mon held (value_of c.enter.new.hart) e) mon.history c.enter.new.mon.history entry c.len-place.result grown c.len-place.ensures.number
-    (made script within words mon kept held fits l at next now ground hosts event performed_so did (g.W.Words.words c.enter.new.w) c.enter.new.mon (value_of c.enter.new.hart)
+    last_entry (λ e. IsMade script words (g.W.Words.words c.enter.new.w) mon c.enter.new.mon held (hart_value c.enter.new.hart) e) mon.history c.enter.new.mon.history entry c.len-place.result grown c.len-place.ensures.number
+    (made script within words mon kept held fits l at next now ground hosts event performed_so did (g.W.Words.words c.enter.new.w) c.enter.new.mon (hart_value c.enter.new.hart)
     c.enter.ensures.kept c.enter.ensures.fits grown (ap (λ n. n.0) (c.enter.ensures.hart ∙ hart)) c.enter.ensures.hosts c.enter.ensures.used c.enter.ensures.words)
 
 pub returns-clause-entry : goal.returns-clause-entry
@@ -155,7 +155,7 @@ returns-clause-due g c =
     let script = c.args.script.now in
     let words = g.W.Words.words c.args.w.now in
     let mon = c.args.mon.now in
-    let held = value_of c.args.hart.now in
+    let held = hart_value c.args.hart.now in
     let kept = c.requires.kept in
     let fits = c.requires.fits in
     let within = c.line_at.ensures.within in

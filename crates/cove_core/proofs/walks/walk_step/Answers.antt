@@ -3,7 +3,7 @@ use Rattle.cove_base.proofs.ScriptLimits.{limits_of}
 use Rattle.cove_base.specs.declared.walks.Target.{Target}
 use Rattle.cove_base.specs.declared.walks.Target.TheVariants.{Host}
 use Rattle.cove_core.proofs.Walking.{fits_walk, wanted, wanted_below}
-use Rattle.cove_hart.specs.HartStates.{value_of}
+use Rattle.cove_hart.specs.HartStates.{hart_value}
 use Rattle.cove_hart.specs.Needs.{next_need}
 use Rattle.cove_hart.specs.declared.needs.Need.{Need}
 use Rattle.cove_hart.specs.declared.needs.Need.TheVariants.{Walk}
@@ -16,7 +16,7 @@ walk_to target = Walk target
 pub walk-walked-requires-clause-place : goal.walk-walked-requires-clause-place
 walk-walked-requires-clause-place g c =
     let script = c.args.script.now in
-    let held = value_of c.args.hart.now in
+    let held = hart_value c.args.hart.now in
     let page = c.in-Walk-Host.page in
     let needed : next_need script held c.args.phase ≡ Walk (Host page) = sym c.next.ensures ∙ c.in-Walk-Host.is ∙ ap walk_to c.in-Walk-Host.field-0-is in
     let want = wanted script held c.args.phase page needed in
@@ -26,7 +26,7 @@ walk-walked-requires-clause-place g c =
 pub walk-walked-requires-clause-limit : goal.walk-walked-requires-clause-limit
 walk-walked-requires-clause-limit g c =
     let script = c.args.script.now in
-    let held = value_of c.args.hart.now in
+    let held = hart_value c.args.hart.now in
     let page = c.in-Walk-Host.page in
     let needed : next_need script held c.args.phase ≡ Walk (Host page) = sym c.next.ensures ∙ c.in-Walk-Host.is ∙ ap walk_to c.in-Walk-Host.field-0-is in
     let want = wanted script held c.args.phase page needed in
@@ -37,7 +37,7 @@ walk-walked-requires-clause-limit g c =
 pub walk-walked-requires-clause-word : goal.walk-walked-requires-clause-word
 walk-walked-requires-clause-word g c =
     let script = c.args.script.now in
-    let held = value_of c.args.hart.now in
+    let held = hart_value c.args.hart.now in
     let page = c.in-Walk-Host.page in
     let needed : next_need script held c.args.phase ≡ Walk (Host page) = sym c.next.ensures ∙ c.in-Walk-Host.is ∙ ap walk_to c.in-Walk-Host.field-0-is in
     let want = wanted script held c.args.phase page needed in
@@ -47,7 +47,7 @@ walk-walked-requires-clause-word g c =
 pub returns-clause-walked : goal.returns-clause-walked
 returns-clause-walked g c =
     let script = c.args.script.now in
-    let held = value_of c.args.hart.now in
+    let held = hart_value c.args.hart.now in
     let page = c.in-Walk-Host.page in
     let needed : next_need script held c.args.phase ≡ Walk (Host page) = sym c.next.ensures ∙ c.in-Walk-Host.is ∙ ap walk_to c.in-Walk-Host.field-0-is in
     let want = wanted script held c.args.phase page needed in

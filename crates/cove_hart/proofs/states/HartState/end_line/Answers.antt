@@ -1,7 +1,7 @@
 use Rattle.std.proofs.Common.{◌≡◌, ◌∙◌, ℕ, ◌+◌, List, Option, None, Some, IfSome, IsSome, length, drop, filter, slice_get, subst, sym, ap, arith}
 use Rattle.cove_base.specs.declared.scripts.ScriptLine.{ScriptLine}
 use Rattle.cove_base.specs.HartLines.{next_line}
-use Rattle.cove_base.specs.HartPlaces.{is_line_of, IsPlace}
+use Rattle.cove_base.specs.HartPlaces.{is_line_of, IsNextPlace}
 use Rattle.cove_base.specs.Scripts.{ScriptValue}
 use Rattle.cove_base.proofs.HartPlaceLemmas.{line_at_place, after_place, place_within}
 use Rattle.cove_hart.proofs.states.HartState.end_line.Goals as goal
@@ -25,11 +25,11 @@ here_of_own lines hart next (Some line) some is here =
     subst (λ h. IfSome (slice_get lines next) (λ l. l.hart.0 ≡ h)) is here
 
 following_place : (script : ScriptValue) (hart ended place next : ℕ) (lines : List ScriptLine) → lines ≡ script.lines
-    → IsPlace script hart ended place → IsSome (next_line script hart ended)
+    → IsNextPlace script hart ended place → IsSome (next_line script hart ended)
     → IfSome (slice_get lines place) (λ own. IfSome (slice_get lines next) (λ line. line.hart.0 ≡ own.hart.0))
     → IfSome (slice_get lines place) (λ own.
     filter (is_line_of own.hart.0) (drop next lines) ≡ filter (is_line_of own.hart.0) (drop (place + 1) lines))
-    → IsPlace script hart (ended + 1) next
+    → IsNextPlace script hart (ended + 1) next
 following_place script hart ended place next lines is stands left here rest =
     let own = slice_get script.lines place in
     let some = subst (λ (o : Option ScriptLine). IsSome o) (sym (line_at_place script hart ended place stands)) left in
