@@ -43,6 +43,12 @@ const SOURCE_FAULT: u8 = 5;
 /// The sink met a fault.
 const SINK_FAULT: u8 = 6;
 
+/// The fault of an input with more bytes than a script may have.
+const TOO_LONG: ScriptFault = ScriptFault {
+    line: 0,
+    kind: Kind::TooLong,
+};
+
 // Why no script was read.
 enum Unread {
     Refused(ScriptFault),
@@ -142,10 +148,7 @@ fn read_script<S: Source>(alloc: Global, source: &mut S) -> Result<Script, Unrea
 {
     match read_all(alloc, source, SCRIPT_LIMIT) {
         Ok(text) => script_of_text(alloc, text.as_slice()),
-        Err(ReadError::TooLong) => Err(Unread::Refused(ScriptFault {
-            line: 0,
-            kind: Kind::TooLong,
-        })),
+        Err(ReadError::TooLong) => Err(Unread::Refused(TOO_LONG)),
         Err(ReadError::Failed) => Err(Unread::Fault),
         Err(ReadError::Memory) => Err(Unread::NoMemory),
     }
