@@ -3,3 +3,4 @@ pub mod PrintLemmas
 pub mod ReadableEntries
 pub mod ScriptNumbers
 pub mod TopLemmas
+pub mod WorkedLemmas
