@@ -84,6 +84,12 @@ each_last P before [] entry all = subst (λ b. P b entry) (sym (append-nil befor
 each_last P before (x ∷ history) entry all =
     subst (λ b. P b entry) (append_assoc before (x ∷ []) history) (each_last P (before ++ x ∷ []) history entry all.1)
 
+-- an entry anywhere in a history
+pub each_at : (P : List Entry → Entry → Type 0) (front before : List Entry) (entry : Entry) (rest : List Entry) → EachEntry P front (before ++ entry ∷ rest) → P (front ++ before) entry
+each_at P front [] entry rest all = subst (λ b. P b entry) (sym (append-nil front)) all.0
+each_at P front (x ∷ before) entry rest all =
+    subst (λ b. P b entry) (append_assoc front (x ∷ []) before) (each_at P (front ++ x ∷ []) before entry rest all.1)
+
 -- induction from the end
 module _ (Q : List Entry → Type 0) (next : (history : List Entry) (entry : Entry) → Q history → Q (history ++ entry ∷ [])) where
   from_front : (front history : List Entry) → Q front → Q (front ++ history)
@@ -104,6 +110,9 @@ legal_front script history entry legal = each_front (Allowed script) [] history 
 
 pub legal_last : (script : ScriptValue) (history : List Entry) (entry : Entry) → Legal script (history ++ entry ∷ []) → Allowed script history entry
 legal_last script history entry legal = each_last (Allowed script) [] history entry legal
+
+pub legal_at : (script : ScriptValue) (before : List Entry) (entry : Entry) (rest : List Entry) → Legal script (before ++ entry ∷ rest) → Allowed script before entry
+legal_at script before entry rest legal = each_at (Allowed script) [] before entry rest legal
 
 -- ---- own entries, and the lines that they answer
 

@@ -4,6 +4,7 @@
 //! function with an empty body.
 
 mod laws;
+mod promises;
 mod readings;
 mod rules;
 mod standing;
@@ -14,6 +15,7 @@ pub use laws::{
     states_are_sound, steps_are_determined, still_rounds_are_last, translations_are_usable,
     unbuilt_calls_are_refused, worked_examples,
 };
+pub use promises::{first_failing_checks_answer, host_reads_show_host_memory};
 pub use readings::{Place, Reading};
 pub use rules::{boundary_law, store_law};
 pub use standing::{frames_law, lawful_law, telling_law, words_law};
