@@ -27,7 +27,7 @@ use Rattle.cove_model.specs.Cached.{IsQuietAt, WasHost}
 use Rattle.cove_model.specs.Fits.{Fits, UnusedFits, WalkFits, ring_of, walked_ring}
 use Rattle.cove_model.specs.Histories.{Legal, after}
 use Rattle.cove_model.specs.Owners.{has, holder, page_at}
-use Rattle.cove_model.specs.Tlbs.{Tlb, filled, tlb}
+use Rattle.cove_model.specs.Tlbs.{Tlb, pages_filled, tlb}
 
 first_false : (a b c : Bool) → (a || b || c) ≡ false → a ≡ false
 first_false true b c e = absurd (false≢true (sym e))
@@ -56,8 +56,8 @@ module _ (script : ScriptValue) (limits : Limits script) (H : List Entry) (e : E
   clear_walk h p hosts on ne moved lacks (targets.Host q) (walks.Found page) fits ring =
       let pages = (tlb script H h).pages in
       let R = ring_of pages in
-      let is : hosts ≡ ring_of (filled Walk q.0 pages) = ring ∙ ap (ring_with R q.0) fits.1 ∙ sym (ring_filled pages q.0) in
-      ap (found p) is ∙ ring_lacks (filled Walk q.0 pages) p (not_true (has p (filled Walk q.0 pages)) (λ named.
+      let is : hosts ≡ ring_of (pages_filled Walk q.0 pages) = ring ∙ ap (ring_with R q.0) fits.1 ∙ sym (ring_filled pages q.0) in
+      ap (found p) is ∙ ring_lacks (pages_filled Walk q.0 pages) p (not_true (has p (pages_filled Walk q.0 pages)) (λ named.
       ⊎_elim
       (λ there. false≢true (sym lacks ∙ there))
       (λ same. was_moved h p on ne (subst (WasHost script H h) same fits.2) moved)

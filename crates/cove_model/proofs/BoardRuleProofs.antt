@@ -36,7 +36,7 @@ use Rattle.cove_model.specs.Owners.{Owner, Host, Converting, Free, Given, has, m
 use Rattle.cove_model.specs.States.{State}
 use Rattle.cove_model.specs.Steps.{Allows}
 use Rattle.cove_model.specs.StoreLaw.{IsUsableWord, MayUse}
-use Rattle.cove_model.specs.Tlbs.{Tlb, filled, tlb}
+use Rattle.cove_model.specs.Tlbs.{Tlb, pages_filled, tlb}
 use Rattle.cove_model.specs.WordsStand.{OwnersStand, PageStands, epoch_in, answered_in, maps_of}
 
 -- ---- what words that stand say of a page that a hart may use
@@ -256,11 +256,11 @@ module _ (script : ScriptValue) (limits : Limits script) (history : List Entry) 
   walk_usable h p hosts on (targets.Host q) (walks.Found page) fits ring named =
       let pages = (tlb script history h).pages in
       let R = ring_of pages in
-      let is : hosts ≡ ring_of (filled Walk q.0 pages) = ring ∙ ap (ring_with R q.0) fits.1 ∙ sym (ring_filled pages q.0) in
+      let is : hosts ≡ ring_of (pages_filled Walk q.0 pages) = ring ∙ ap (ring_with R q.0) fits.1 ∙ sym (ring_filled pages q.0) in
       ⊎_elim
       (λ there. held_lives h p there)
       (λ same. subst (λ k. (k < script.pages) × MayUse script.pages words h k) same (found_lives h q.0 on fits.2))
-      (has_filled Walk p q.0 pages (ring_names (filled Walk q.0 pages) p (subst (λ r. IsSome (found p r)) is named)))
+      (has_filled Walk p q.0 pages (ring_names (pages_filled Walk q.0 pages) p (subst (λ r. IsSome (found p r)) is named)))
   walk_usable h p hosts on (targets.Host q) (walks.Missing word) fits ring named = ring_lives h p hosts ring named
   walk_usable h p hosts on (targets.Fetch g) w fits ring named = absurd fits
   walk_usable h p hosts on (targets.Access g) w fits ring named = absurd fits

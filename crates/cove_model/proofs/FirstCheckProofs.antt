@@ -1,7 +1,7 @@
 -- The first check that fails answers.
 use Rattle.std.proofs.Common.{◌≡◌, ℕ, zero, suc, ◌⊎◌, inl, inr, Bool, true, false, List, [], ◌∷◌, take, slice_get, Some, None, refl, sym, ◌∙◌, ap, subst, true≢false, unwrap_or, ◌↔◌}
 use Rattle.std.proofs.lemmas.Bool.{cond-false, cond-true}
-use Rattle.std.proofs.lemmas.Option.{none-some}
+use Rattle.std.proofs.lemmas.Option.{none-some, same_Some}
 use Rattle.std.specs.List.{AllByRecursion}
 use Rattle.cove_base.specs.Statuses.{is_success}
 use Rattle.cove_base.specs.declared.calls.HostCall.{HostCall}
@@ -9,12 +9,9 @@ use Rattle.cove_base.specs.declared.calls.HostCall.TheVariants.{Convert, GlobalF
 use Rattle.cove_base.specs.declared.statuses.Reply.{Reply}
 use Rattle.cove_base.specs.declared.statuses.Status.TheVariants.{Success}
 use Rattle.cove_model.specs.Effects.{effect, outcome, refusal, reply_to, rule_of, state_after, state_by, value_of}
-use Rattle.cove_model.specs.FirstChecks.{AllPassed, FailsFirst, answer_of}
+use Rattle.cove_model.specs.FirstChecks.{AllPassed, FailsFirst, refusal_by}
 use Rattle.cove_model.specs.Refusals.{Check, first_failing}
 use Rattle.cove_model.specs.States.{State}
-
-same : (x y : Check) → Some x ≡ Some y → x ≡ y
-same x y e = cc
 
 -- a check of a list fails first, or every one passes
 pub first_or_passed : (checks : List Check) → ((i : ℕ) × ((check : Check) × FailsFirst checks i check)) ⊎ AllPassed checks
@@ -32,7 +29,7 @@ first_not_passed checks i check first passed = go checks i first.stands passed
   where
     go : (checks : List Check) (i : ℕ) → slice_get checks i ≡ Some check → AllPassed checks → ⊥
     go [] i at passed = none-some _ at
-    go (x ∷ xs) zero at passed = true≢false (sym first.fails ∙ ap (λ c. c.fails) (sym (same x check at)) ∙ passed.0)
+    go (x ∷ xs) zero at passed = true≢false (sym first.fails ∙ ap (λ c. c.fails) (sym (same_Some x check at)) ∙ passed.0)
     go (x ∷ xs) (suc i) at passed = go xs i at passed.1
 
 -- one check alone fails first
@@ -41,20 +38,20 @@ first_once checks i j check other first second = go checks i j first.stands firs
   where
     go : (checks : List Check) (i j : ℕ) → slice_get checks i ≡ Some check → AllPassed (take i checks) → slice_get checks j ≡ Some other → AllPassed (take j checks) → (i ≡ j) × (check ≡ other)
     go [] i j at earlier at' earlier' = absurd (none-some _ at)
-    go (x ∷ xs) zero zero at earlier at' earlier' = (refl, sym (same x check at) ∙ same x other at')
-    go (x ∷ xs) zero (suc j) at earlier at' earlier' = absurd (true≢false (sym first.fails ∙ ap (λ c. c.fails) (sym (same x check at)) ∙ earlier'.0))
-    go (x ∷ xs) (suc i) zero at earlier at' earlier' = absurd (true≢false (sym second.fails ∙ ap (λ c. c.fails) (sym (same x other at')) ∙ earlier.0))
+    go (x ∷ xs) zero zero at earlier at' earlier' = (refl, sym (same_Some x check at) ∙ same_Some x other at')
+    go (x ∷ xs) zero (suc j) at earlier at' earlier' = absurd (true≢false (sym first.fails ∙ ap (λ c. c.fails) (sym (same_Some x check at)) ∙ earlier'.0))
+    go (x ∷ xs) (suc i) zero at earlier at' earlier' = absurd (true≢false (sym second.fails ∙ ap (λ c. c.fails) (sym (same_Some x other at')) ∙ earlier.0))
     go (x ∷ xs) (suc i) (suc j) at earlier at' earlier' =
         let rest = go xs i j at earlier.1 at' earlier'.1 in (ap suc rest.0, rest.1)
 
 -- the first check that fails answers
-first_answers : (checks : List Check) (i : ℕ) (check : Check) → FailsFirst checks i check → first_failing checks ≡ Some (answer_of check)
+first_answers : (checks : List Check) (i : ℕ) (check : Check) → FailsFirst checks i check → first_failing checks ≡ Some (refusal_by check)
 first_answers checks i check first = go checks i first.stands first.earlier
   where
-    go : (checks : List Check) (i : ℕ) → slice_get checks i ≡ Some check → AllPassed (take i checks) → first_failing checks ≡ Some (answer_of check)
+    go : (checks : List Check) (i : ℕ) → slice_get checks i ≡ Some check → AllPassed (take i checks) → first_failing checks ≡ Some (refusal_by check)
     go [] i at earlier = absurd (none-some _ at)
     go (x ∷ xs) zero at earlier =
-        cond-true x.fails _ (first_failing xs) (ap (λ c. c.fails) (same x check at) ∙ first.fails) ∙ ap (λ c. Some (answer_of c)) (same x check at)
+        cond-true x.fails _ (first_failing xs) (ap (λ c. c.fails) (same_Some x check at) ∙ first.fails) ∙ ap (λ c. Some (refusal_by c)) (same_Some x check at)
     go (x ∷ xs) (suc i) at earlier = cond-false x.fails _ (first_failing xs) earlier.0 ∙ go xs i at earlier.1
 
 -- where every check passes, none answers
@@ -62,9 +59,9 @@ passed_answers : (checks : List Check) → AllPassed checks → first_failing ch
 passed_answers [] passed = refl
 passed_answers (x ∷ xs) passed = cond-false x.fails _ (first_failing xs) passed.0 ∙ passed_answers xs passed.1
 
-pub refused_by_first : (S : State) (hart : ℕ) (call : HostCall) (i : ℕ) (check : Check) → FailsFirst ((rule_of call).checks S hart) i check → (reply_to S hart call ≡ answer_of check) × (state_after S hart call ≡ S)
+pub refused_by_first : (S : State) (hart : ℕ) (call : HostCall) (i : ℕ) (check : Check) → FailsFirst ((rule_of call).checks S hart) i check → (reply_to S hart call ≡ refusal_by check) × (state_after S hart call ≡ S)
 refused_by_first S hart call i check first =
-    let e : refusal S hart call ≡ Some (answer_of check) = first_answers ((rule_of call).checks S hart) i check first in
+    let e : refusal S hart call ≡ Some (refusal_by check) = first_answers ((rule_of call).checks S hart) i check first in
     let success : Reply = record { status = Success; value = value_of S hart call } in
     (ap (λ o. unwrap_or o success) e, ap (λ o. state_by o S (effect S hart call)) e)
 
@@ -84,7 +81,7 @@ never_success S hart _ = (refl, tt)
 
 found_fact : (P : Check → Type 0) (checks : List Check) (i : ℕ) (check : Check) → slice_get checks i ≡ Some check → AllByRecursion P checks → P check
 found_fact P [] i check at all = absurd (none-some _ at)
-found_fact P (x ∷ xs) zero check at all = subst P (same x check at) all.0
+found_fact P (x ∷ xs) zero check at all = subst P (same_Some x check at) all.0
 found_fact P (x ∷ xs) (suc i) check at all = found_fact P xs i check at all.1
 
 -- success is answered exactly where every check passes

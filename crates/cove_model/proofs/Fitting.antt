@@ -19,7 +19,7 @@ use Rattle.cove_model.specs.Owners.{has, is_host, page_at}
 use Rattle.cove_model.specs.Played.{noted, walked}
 use Rattle.cove_model.specs.States.{ended_by}
 use Rattle.cove_model.specs.Steps.{after_event}
-use Rattle.cove_model.specs.Tlbs.{Tlb, filled, tlb}
+use Rattle.cove_model.specs.Tlbs.{Tlb, pages_filled, tlb}
 use Rattle.std.proofs.Common.{Bool, List, None, Option, Some, [], ap, arith, cond, drop, eqb, eqb-true, false, find, length, map, option_map, refl, sym, true, ℕ, ◌++◌, ◌+◌, ◌-◌, ◌||◌, ◌∙◌, ◌∷◌, ◌≡◌}
 use Rattle.std.proofs.lemmas.List.{drop-map, length-map, map-append}
 use Rattle.cove_base.specs.declared.walks.Target.TheVariants as targets
@@ -81,7 +81,7 @@ keep_map : {X Y : Type 0} (f : X → Y) (n : ℕ) (xs : List X) → keep_last n 
 keep_map f n xs = ap (λ k. drop (k - n) (map f xs)) (length-map xs f) ∙ drop-map f (length xs - n) xs
 
 -- a ring is filled as its list of pages is
-pub ring_filled : (pages : List ℕ) (p : ℕ) → ring_of (filled Walk p pages) ≡ keep_last ring_room (ring_of pages ++ (p, record { 0 = p }) ∷ [])
+pub ring_filled : (pages : List ℕ) (p : ℕ) → ring_of (pages_filled Walk p pages) ≡ keep_last ring_room (ring_of pages ++ (p, record { 0 = p }) ∷ [])
 ring_filled pages p =
     sym (keep_map as_pair ring_room (pages ++ p ∷ [])) ∙ ap (keep_last ring_room) (map-append as_pair pages (p ∷ []))
   where
@@ -125,7 +125,7 @@ pub ring_missing : (script : ScriptValue) (H : List Entry) (held : HartValue) (p
 ring_missing script H held p word fits missing = fits.ring ∙ ap (walked_ring (ring_of (tlb script H held.hart).pages)) missing
 
 -- with one, it is the translations after the success by that walk
-pub ring_found : (script : ScriptValue) (H : List Entry) (held : HartValue) (p : Page) → Fits script H held → held.walked ≡ Some (record { target = targets.Host p; walked = walks.Found p }) → held.hosts ≡ ring_of (filled Walk p.0 (tlb script H held.hart).pages)
+pub ring_found : (script : ScriptValue) (H : List Entry) (held : HartValue) (p : Page) → Fits script H held → held.walked ≡ Some (record { target = targets.Host p; walked = walks.Found p }) → held.hosts ≡ ring_of (pages_filled Walk p.0 (tlb script H held.hart).pages)
 ring_found script H held p fits found' =
     fits.ring ∙ ap (walked_ring (ring_of (tlb script H held.hart).pages)) found'
     ∙ sym (ring_filled (tlb script H held.hart).pages p.0)

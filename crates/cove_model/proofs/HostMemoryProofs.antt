@@ -1,7 +1,7 @@
 -- What a load shows, and which pages have words.
 use Rattle.std.proofs.Common.{◌≡◌, ℕ, ◌<◌, ◌≤◌, true, false, List, ◌∷◌, ◌++◌, length, slice_get, slice_index, Option, Some, None, option_and_then, refl, sym, ◌∙◌, ap, subst, arith, true≢false}
 use Rattle.std.proofs.lemmas.List.{get_or_past}
-use Rattle.std.proofs.lemmas.Option.{none-some, slice_get-get_or}
+use Rattle.std.proofs.lemmas.Option.{none-some, same_Some, slice_get-get_or}
 use Rattle.cove_base.specs.Scripts.{ScriptValue}
 use Rattle.cove_base.specs.declared.events.Entry.{Entry}
 use Rattle.cove_base.specs.declared.events.Event.{Event}
@@ -11,7 +11,7 @@ use Rattle.cove_model.proofs.AtTheEnd.{legal_at}
 use Rattle.cove_model.proofs.Soundness.{Move, Same, Converts, Reclaims, Stores, Fences, Responds, board_of, moves, sound}
 use Rattle.cove_model.specs.Histories.{Legal, after}
 use Rattle.cove_model.specs.HostMemory.{host_memory, host_word, seen_words}
-use Rattle.cove_model.specs.Owners.{Owner, Host, Converting, Free, Given, Purpose, answered, converted, fenced, may_use, page_at, reclaimed, without, word_stored, words_of, zeros}
+use Rattle.cove_model.specs.Owners.{Owner, Host, Converting, Free, Given, Purpose, fence_answered, converted, fenced, may_use, page_at, reclaimed, without, word_stored, words_of, zeros}
 use Rattle.cove_model.specs.Sound.{IsSoundPage}
 use Rattle.cove_model.specs.States.{State, harts_below, page_of, word_place}
 use Rattle.cove_model.specs.Steps.{Answers, after_event, done}
@@ -32,13 +32,10 @@ load_shows script before rest entry addr how value legal is =
     let answers = subst P is (legal_at script before entry rest legal).1 in
     seen_word S entry.hart.0 (word_place addr) value (page_at S.pages (page_of addr)) (omega arith) ((sound script before).pages_sound (page_of addr)) answers.0 answers.1
 
-same : (xs ys : List ℕ) → Some xs ≡ Some ys → xs ≡ ys
-same xs ys e = cc
-
 words_of_sound : (S : State) (owner : Owner) (words : List ℕ) → IsSoundPage S owner → seen_words owner ≡ Some words → length words ≡ 512
-words_of_sound S (Host ws) words sound e = sym (ap length (same ws words e)) ∙ sound
-words_of_sound S (Converting held None ws) words sound e = sym (ap length (same ws words e)) ∙ sound.0
-words_of_sound S (Converting held (Some waiting) ws) words sound e = sym (ap length (same ws words e)) ∙ sound.0
+words_of_sound S (Host ws) words sound e = sym (ap length (same_Some ws words e)) ∙ sound
+words_of_sound S (Converting held None ws) words sound e = sym (ap length (same_Some ws words e)) ∙ sound.0
+words_of_sound S (Converting held (Some waiting) ws) words sound e = sym (ap length (same_Some ws words e)) ∙ sound.0
 words_of_sound S Free words sound e = absurd (none-some _ e)
 words_of_sound S (Given tvm purpose) words sound e = absurd (none-some _ e)
 
@@ -64,7 +61,7 @@ still change free given (Given tvm purpose) e = ap seen_words (given tvm purpose
 reclaimed_zeros : (owner : Owner) (words : List ℕ) → seen_words owner ≡ None → seen_words (reclaimed owner) ≡ Some words → words ≡ zeros
 reclaimed_zeros (Host ws) words none e = absurd (none-some _ (sym none))
 reclaimed_zeros (Converting held waiting ws) words none e = absurd (none-some _ (sym none))
-reclaimed_zeros Free words none e = sym (same zeros words e)
+reclaimed_zeros Free words none e = sym (same_Some zeros words e)
 reclaimed_zeros (Given tvm purpose) words none e = absurd (none-some _ e)
 
 returned_move : (S T : State) (h : ℕ) (old new : Owner) (words : List ℕ) → Move S T h old new → seen_words old ≡ None → seen_words new ≡ Some words → words ≡ zeros
@@ -72,13 +69,14 @@ returned_move S T h old new words move none some = go move
   where
     never : (owner : Owner) → new ≡ owner → seen_words owner ≡ None → words ≡ zeros
     never owner is e = absurd (none-some _ (sym (ap seen_words is ∙ e) ∙ some))
+
     go : Move S T h old new → words ≡ zeros
     go (Same u e) = never old e none
     go (Converts u e) = never (converted (harts_below S.harts) old) e (still (converted (harts_below S.harts)) refl (λ tvm purpose. refl) old none)
     go (Reclaims u e) = reclaimed_zeros old words none (sym (ap seen_words e) ∙ some)
     go (Stores place value u e) = never (word_stored place value old) e (still (word_stored place value) refl (λ tvm purpose. refl) old none)
     go (Fences f u e) = never (fenced h (without h (harts_below S.harts)) old) e (still (fenced h (without h (harts_below S.harts))) refl (λ tvm purpose. refl) old none)
-    go (Responds u e) = never (answered h old) e (still (answered h) refl (λ tvm purpose. refl) old none)
+    go (Responds u e) = never (fence_answered h old) e (still (fence_answered h) refl (λ tvm purpose. refl) old none)
 
 -- a page that comes to the host has zeros
 pub returned_zeros : (S : State) (hart : ℕ) (event : Event) (p : ℕ) (words : List ℕ) → host_memory S p ≡ None → host_memory (after_event S hart event) p ≡ Some words → words ≡ zeros

@@ -59,7 +59,7 @@ pub fn worked_runs()
     ensures all_free { refusal three_free 0 (Reclaim 0x4000 3) ≡ None }
 {}
 
-/// Which events may be made, in an order of the harts.
+/// Which events may be made: the offered line, with the answer, the word or the fault that the state gives.
 pub fn worked_steps()
     ensures legal { Legal there_and_back there_and_back_history }
     ensures other_order { Legal there_and_back (fence ∷ to_the_monitor ∷ and_back ∷ []) → ⊥ }
@@ -67,6 +67,7 @@ pub fn worked_steps()
     ensures other_status { Legal there_and_back (said 0 (Convert 0x4000 1) InvalidAddress 0 ∷ []) → ⊥ }
     ensures other_word { Legal (board 1 [] (load 0 0x4000 ∷ []) []) (loaded 0 0x4000 Walk 5 ∷ []) → ⊥ }
     ensures no_fault { Legal (board 1 [] (load 0 0x4000 ∷ []) []) (faulted 0 0x4000 ∷ []) → ⊥ }
+    ensures no_success { Legal late late_history → ⊥ }
     ensures phases { Legal two_phases (to_the_monitor ∷ local_fence ∷ []) }
     ensures later_phase_first { Legal two_phases (local_fence ∷ to_the_monitor ∷ []) → ⊥ }
 {}
@@ -79,10 +80,11 @@ pub fn worked_lines()
     ensures left_out { Follows there_and_back (to_the_monitor ∷ and_back ∷ []) → ⊥ }
     ensures swapped { Follows there_and_back (fence ∷ to_the_monitor ∷ and_back ∷ []) → ⊥ }
     ensures one_hart_alone { Follows two_harts (to_the_monitor ∷ fence ∷ local_fence ∷ []) → ⊥ }
+    ensures a_line_more { Follows two_harts (first_hart_first ++ local_fence ∷ []) → ⊥ }
     ensures begins { Begins two_harts (local_fence ∷ to_the_monitor ∷ []) }
     ensures begins_twice { Begins there_and_back (to_the_monitor ∷ to_the_monitor ∷ []) → ⊥ }
     ensures begins_later { Begins there_and_back (fence ∷ []) → ⊥ }
-    ensures goes_on { Begins two_harts (first_hart_first ++ local_fence ∷ []) → ⊥ }
+    ensures begins_with_more { Begins two_harts (first_hart_first ++ local_fence ∷ []) → ⊥ }
     ensures over { IsOver two_harts first_hart_first }
     ensures first_has_a_line { IsOver two_harts (local_fence ∷ local_fence ∷ to_the_monitor ∷ []) → ⊥ }
     ensures second_has_a_line { IsOver two_harts (to_the_monitor ∷ fence ∷ local_fence ∷ []) → ⊥ }

@@ -11,13 +11,13 @@ mod rules;
 mod standing;
 
 pub use examples::{
-    worked_fills, worked_lines, worked_plays, worked_quiet, worked_refusals, worked_reports, worked_runs,
-    worked_steps, worked_translations, worked_words,
+    worked_fills, worked_lines, worked_plays, worked_quiet, worked_refusals, worked_reports,
+    worked_runs, worked_steps, worked_translations, worked_words,
 };
 pub use laws::{
-    harts_keep_fitting, legal_histories_are_quiet, legal_histories_begin,
-    offers_are_allowed, one_entry_later, others_untouched, played_histories_are_legal,
-    states_are_sound, steps_are_determined, still_rounds_are_last, translations_are_usable,
+    harts_keep_fitting, legal_histories_are_quiet, legal_histories_begin, offers_are_allowed,
+    one_entry_later, others_untouched, played_histories_are_legal, states_are_sound,
+    steps_are_determined, still_rounds_are_last, translations_are_usable,
     unbuilt_calls_are_refused,
 };
 pub use promises::{first_failing_checks_answer, host_reads_show_host_memory};

@@ -10,7 +10,7 @@ ghost use Rattle.cove_base.specs.declared.events.How.{How};
 ghost use Rattle.cove_base.specs.declared.statuses.Reply.{Reply};
 ghost use Rattle.cove_base.specs.declared.statuses.Status.TheVariants.{Success};
 ghost use Rattle.cove_model.specs.Effects.{outcome, reply_to, rule_of, state_after};
-ghost use Rattle.cove_model.specs.FirstChecks.{AllPassed, FailsFirst, answer_of};
+ghost use Rattle.cove_model.specs.FirstChecks.{AllPassed, FailsFirst, refusal_by};
 ghost use Rattle.cove_model.specs.Histories.{Legal, after};
 ghost use Rattle.cove_model.specs.HostMemory.{host_memory, host_word};
 ghost use Rattle.cove_model.specs.Owners.{TheHost, holder, page_at, zeros};
@@ -24,7 +24,7 @@ pub fn first_failing_checks_answer()
     // A call that is refused changes nothing.
     ensures refused { (S : State) (hart : ℕ) (call : HostCall) (i : ℕ) (check : Check)
         → FailsFirst ((rule_of call).checks S hart) i check
-        → (reply_to S hart call ≡ answer_of check) × (state_after S hart call ≡ S) }
+        → (reply_to S hart call ≡ refusal_by check) × (state_after S hart call ≡ S) }
     ensures accepted { (S : State) (hart : ℕ) (call : HostCall) → AllPassed ((rule_of call).checks S hart)
         → (reply_to S hart call ≡ record { status = Success; value = (outcome S hart call).value })
         × (state_after S hart call ≡ (outcome S hart call).state) }
