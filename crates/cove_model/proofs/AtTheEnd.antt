@@ -10,13 +10,11 @@ use Rattle.cove_model.specs.Effects.{effect, refusal, state_by}
 use Rattle.cove_model.specs.Examples.{call}
 use Rattle.cove_model.specs.Follows.{told}
 use Rattle.cove_model.specs.Histories.{EachEntry, Legal, after, after_entry, own}
-use Rattle.cove_model.specs.Reports.{ended_line, entry_line, entry_lines}
 use Rattle.cove_model.specs.States.{State, ended_by, opening}
 use Rattle.cove_model.specs.Steps.{Allows, after_event, asked, done}
 use Rattle.cove_model.specs.Tlbs.{Tlb, held_after, held_from, nothing_held, renewed, tlb}
 use Rattle.std.proofs.Common.{List, None, Option, Some, T, [], ap, append-nil, append_assoc, arith, eq-eqb, eqb, filter_map, fold, get_or, get_or-set_other, get_or-set_same, length, length-set, ne_eqb, refl, subst, sym, ℕ, ◌++◌, ◌+◌, ◌<◌, ◌∙◌, ◌∷◌, ◌≡◌, ◌≢◌}
 use Rattle.std.proofs.lemmas.Bool.{cond-false, cond-true}
-use Rattle.std.proofs.lemmas.List.Concat.{flat_map-append}
 use Rattle.std.proofs.lemmas.List.Elements.{filter-append, filter_map-append}
 use Rattle.std.proofs.lemmas.List.Sums.{fold_push}
 use Rattle.std.specs.List.{cons_option}
@@ -150,10 +148,3 @@ tlb_same script history entry h e = tlb_push script history entry h ∙ cond-tru
 
 pub tlb_other : (script : ScriptValue) (history : List Entry) (entry : Entry) (h : ℕ) → (entry.hart.0 ≡ h → ⊥) → tlb script (history ++ entry ∷ []) h ≡ tlb script history h
 tlb_other script history entry h e = tlb_push script history entry h ∙ cond-false (eqb entry.hart.0 h) _ (tlb script history h) (ne_eqb entry.hart.0 h e)
-
--- ---- the journal
-
-pub lines_push : (history : List Entry) (entry : Entry) → entry_lines (history ++ entry ∷ []) ≡ entry_lines history ++ ended_line (entry_line entry)
-lines_push history entry =
-    flat_map-append (λ x. ended_line (entry_line x)) history (entry ∷ [])
-    ∙ ap (λ xs. entry_lines history ++ xs) (append-nil (ended_line (entry_line entry)))

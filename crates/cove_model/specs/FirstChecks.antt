@@ -1,5 +1,5 @@
 -- Which check of a list is the first that fails.
-use Rattle.std.specs.Prelude.{◌≡◌, ℕ, true, false, List, take, slice_get, Option, Some}
+use Rattle.std.specs.Prelude.{◌≡◌, ℕ, true, false, List, take, slice_get, Some}
 use Rattle.std.specs.List.{AllByRecursion}
 use Rattle.cove_model.specs.Types.{Reply}
 use Rattle.cove_model.specs.Refusals.{Check}
