@@ -248,8 +248,8 @@ module _ (script : ScriptValue) (limits : Limits script) (history : List Entry) 
   live_of held fits = record {
     on_board = fits.on_board;
     usable = λ p named.
-    ⊎_elim (held_lives held.hart p) (found_lives held.hart p fits.on_board)
-    (ring_cases script history held.hart p held.hosts held.walked fits.walk fits.ring named);
+        ⊎_elim (held_lives held.hart p) (found_lives held.hart p fits.on_board)
+        (ring_cases script history held.hart p held.hosts held.walked fits.walk fits.ring named);
     walk = unused_lives held.hart fits.on_board held.walked fits.walk;
     ring = fits.ring;
   }

@@ -72,7 +72,7 @@ two_phases =
     board 2 [] (call 0 (Convert 0x4000 1)
     ∷ record { hart = record { 0 = 1 }; phase = 1; line = Line.Call LocalFence } ∷ []) []
 
--- a page is free once each hart has answered; then a hart, which the entries after it forget, loads from it
+-- a page is free once each hart has answered
 abbrev pub once_free : List Entry
 once_free = to_the_monitor ∷ fence ∷ local_fence ∷ []
 

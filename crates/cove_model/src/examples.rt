@@ -109,7 +109,8 @@ pub fn worked_quiet()
     ensures quiet { IsQuiet held_before held_before_history }
     ensures other_hart { IsQuiet two_harts (once_free ++ loaded 1 0x4000 Walk 0 ∷ and_back ∷ []) → ⊥ }
     ensures own_hart { IsQuiet two_harts (once_free ++ loaded 0 0x4000 Walk 0 ∷ and_back ∷ []) → ⊥ }
-    ensures leaves { IsQuiet (board 3 [] [] []) (to_the_monitor ∷ fence ∷ said 2 LocalFence Success 0 ∷ loaded 2 0x4000 Walk 0 ∷ local_fence ∷ []) → ⊥ }
+    ensures leaves { IsQuiet (board 3 [] [] []) (to_the_monitor ∷ fence ∷ said 2 LocalFence Success 0
+        ∷ loaded 2 0x4000 Walk 0 ∷ local_fence ∷ []) → ⊥ }
 {}
 
 /// The histories that scripts play.
@@ -128,9 +129,11 @@ pub fn worked_plays()
 /// The journals of histories, with each of the last lines.
 pub fn worked_reports()
     ensures there_and_back { report there_and_back_history
-        ≡ text (codes "0 convert 0x4000 0x1 = 0 0x0" ∷ codes "0 gfence = 0 0x0" ∷ codes "0 reclaim 0x4000 0x1 = 0 0x0" ∷ codes "end 3" ∷ []) }
+        ≡ text (codes "0 convert 0x4000 0x1 = 0 0x0" ∷ codes "0 gfence = 0 0x0"
+        ∷ codes "0 reclaim 0x4000 0x1 = 0 0x0" ∷ codes "end 3" ∷ []) }
     ensures stale { report (stale_history 0x8877665544332211 Hit)
-        ≡ text (codes "1 ld 0x4000 walk 8877665544332211" ∷ codes "0 convert 0x4000 0x1 = 0 0x0" ∷ codes "1 ld 0x4000 hit 8877665544332211" ∷ codes "0 ld 0x4000 walk fault" ∷ codes "end 4" ∷ []) }
+        ≡ text (codes "1 ld 0x4000 walk 8877665544332211" ∷ codes "0 convert 0x4000 0x1 = 0 0x0"
+        ∷ codes "1 ld 0x4000 hit 8877665544332211" ∷ codes "0 ld 0x4000 walk fault" ∷ codes "end 4" ∷ []) }
     ensures limit { report_limit (to_the_monitor ∷ fence ∷ [])
         ≡ text (codes "0 convert 0x4000 0x1 = 0 0x0" ∷ codes "0 gfence = 0 0x0" ∷ codes "limit 2" ∷ []) }
     ensures nothing { report [] ≡ text (codes "end 0" ∷ []) }
