@@ -34,7 +34,7 @@ use Rattle.cove_model.specs.Fits.{Fits, IsSought, UnusedFits, WalkFits, ring_of,
 use Rattle.cove_model.specs.Histories.{Legal, after}
 use Rattle.cove_model.specs.Owners.{has, is_host, may_use, page_at}
 use Rattle.cove_model.specs.States.{State, ended_by}
-use Rattle.cove_model.specs.Tlbs.{filled, tlb}
+use Rattle.cove_model.specs.Tlbs.{pages_filled, tlb}
 use Rattle.cove_model.specs.WordLaws.{Stand}
 
 -- how an access is told that was reached, and whether it may come to that
@@ -46,8 +46,8 @@ how_of reach.Absent = None
 
 abbrev pub pages_by : Reach → (p : ℕ) → List ℕ → List ℕ
 pages_by reach.Held p pages = pages
-pages_by reach.Walked p pages = filled Walk p pages
-pages_by reach.Fresh p pages = filled Walk p pages
+pages_by reach.Walked p pages = pages_filled Walk p pages
+pages_by reach.Fresh p pages = pages_filled Walk p pages
 pages_by reach.Absent p pages = pages
 
 abbrev pub MayReach : State → (hart p : ℕ) → Reach → Type 0
@@ -160,7 +160,7 @@ has_last (suc n) p [] few = absurd (omega arith)
 has_last (suc n) p (x ∷ xs) few = has_last n p xs (omega arith)
 
 -- a page that a walk brings in is there
-has_brought : (p : ℕ) (pages : List ℕ) → has p (filled Walk p pages) ≡ true
+has_brought : (p : ℕ) (pages : List ℕ) → has p (pages_filled Walk p pages) ≡ true
 has_brought p pages =
     let size : length (pages ++ p ∷ []) ≡ length pages + 1 = length_push pages p in
     has_last (length (pages ++ p ∷ []) - ring_room) p pages (omega arith)
@@ -216,6 +216,6 @@ module _ (script : ScriptValue) (limits : Limits script) (H : List Entry) (legal
   told_rightly ready hosts reach.Walked reaches =
       let pages = (tlb script H held.hart).pages in
       let w = walk_is true reaches.0 in
-      inl (ap (λ x. is_some (found p x)) (w.with_it refl ∙ sym (ring_filled pages p)) ∙ ring_names (filled Walk p pages) p (has_brought p pages))
+      inl (ap (λ x. is_some (found p x)) (w.with_it refl ∙ sym (ring_filled pages p)) ∙ ring_names (pages_filled Walk p pages) p (has_brought p pages))
   told_rightly ready hosts reach.Fresh reaches = inr reaches.1
   told_rightly ready hosts reach.Absent reaches = absent_now reaches.0

@@ -10,13 +10,11 @@ use Rattle.cove_model.specs.Effects.{effect, refusal, state_by}
 use Rattle.cove_model.specs.Examples.{call}
 use Rattle.cove_model.specs.Follows.{told}
 use Rattle.cove_model.specs.Histories.{EachEntry, Legal, after, after_entry, own}
-use Rattle.cove_model.specs.Reports.{ended_line, entry_line, entry_lines}
 use Rattle.cove_model.specs.States.{State, ended_by, opening}
 use Rattle.cove_model.specs.Steps.{Allows, after_event, asked, done}
 use Rattle.cove_model.specs.Tlbs.{Tlb, held_after, held_from, nothing_held, renewed, tlb}
 use Rattle.std.proofs.Common.{List, None, Option, Some, T, [], ap, append-nil, append_assoc, arith, eq-eqb, eqb, filter_map, fold, get_or, get_or-set_other, get_or-set_same, length, length-set, ne_eqb, refl, subst, sym, ℕ, ◌++◌, ◌+◌, ◌<◌, ◌∙◌, ◌∷◌, ◌≡◌, ◌≢◌}
 use Rattle.std.proofs.lemmas.Bool.{cond-false, cond-true}
-use Rattle.std.proofs.lemmas.List.Concat.{flat_map-append}
 use Rattle.std.proofs.lemmas.List.Elements.{filter-append, filter_map-append}
 use Rattle.std.proofs.lemmas.List.Sums.{fold_push}
 use Rattle.std.specs.List.{cons_option}
@@ -84,6 +82,12 @@ each_last P before [] entry all = subst (λ b. P b entry) (sym (append-nil befor
 each_last P before (x ∷ history) entry all =
     subst (λ b. P b entry) (append_assoc before (x ∷ []) history) (each_last P (before ++ x ∷ []) history entry all.1)
 
+-- an entry anywhere in a history
+pub each_at : (P : List Entry → Entry → Type 0) (front before : List Entry) (entry : Entry) (rest : List Entry) → EachEntry P front (before ++ entry ∷ rest) → P (front ++ before) entry
+each_at P front [] entry rest all = subst (λ b. P b entry) (sym (append-nil front)) all.0
+each_at P front (x ∷ before) entry rest all =
+    subst (λ b. P b entry) (append_assoc front (x ∷ []) before) (each_at P (front ++ x ∷ []) before entry rest all.1)
+
 -- induction from the end
 module _ (Q : List Entry → Type 0) (next : (history : List Entry) (entry : Entry) → Q history → Q (history ++ entry ∷ [])) where
   from_front : (front history : List Entry) → Q front → Q (front ++ history)
@@ -104,6 +108,9 @@ legal_front script history entry legal = each_front (Allowed script) [] history 
 
 pub legal_last : (script : ScriptValue) (history : List Entry) (entry : Entry) → Legal script (history ++ entry ∷ []) → Allowed script history entry
 legal_last script history entry legal = each_last (Allowed script) [] history entry legal
+
+pub legal_at : (script : ScriptValue) (before : List Entry) (entry : Entry) (rest : List Entry) → Legal script (before ++ entry ∷ rest) → Allowed script before entry
+legal_at script before entry rest legal = each_at (Allowed script) [] before entry rest legal
 
 -- ---- own entries, and the lines that they answer
 
@@ -141,10 +148,3 @@ tlb_same script history entry h e = tlb_push script history entry h ∙ cond-tru
 
 pub tlb_other : (script : ScriptValue) (history : List Entry) (entry : Entry) (h : ℕ) → (entry.hart.0 ≡ h → ⊥) → tlb script (history ++ entry ∷ []) h ≡ tlb script history h
 tlb_other script history entry h e = tlb_push script history entry h ∙ cond-false (eqb entry.hart.0 h) _ (tlb script history h) (ne_eqb entry.hart.0 h e)
-
--- ---- the journal
-
-pub lines_push : (history : List Entry) (entry : Entry) → entry_lines (history ++ entry ∷ []) ≡ entry_lines history ++ ended_line (entry_line entry)
-lines_push history entry =
-    flat_map-append (λ x. ended_line (entry_line x)) history (entry ∷ [])
-    ∙ ap (λ xs. entry_lines history ++ xs) (append-nil (ended_line (entry_line entry)))

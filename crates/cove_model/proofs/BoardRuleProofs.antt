@@ -1,32 +1,28 @@
 -- Lawful stores and the store of the count keep the rule of every other hart; a hart that fits follows it.
-use Rattle.std.proofs.Common.{◌≡◌, ◌≢◌, ℕ, ◌+◌, ◌<◌, ◌≤◌, Bool, true, false, cond, List, [], ◌∷◌, ◌++◌, Option, Some, None, IsSome, length, get_or, set, refl, sym, ◌∙◌, ap, subst, inl, inr, ⊎_elim, arith, get_or-set_other, get_or-set_same, length-set}
-use Rattle.std.proofs.lemmas.Bool.{cases_lt, false≢true}
+use Rattle.std.proofs.Common.{◌≡◌, ◌≢◌, ℕ, ◌+◌, ◌<◌, ◌≤◌, true, List, [], ◌∷◌, ◌++◌, Option, Some, None, length, get_or, set, sym, ◌∙◌, ap, subst, inl, inr, ⊎_elim, arith, get_or-set_other, get_or-set_same, length-set}
+use Rattle.std.proofs.lemmas.Bool.{cases_lt}
 use Rattle.std.proofs.lemmas.List.{get_or_past, length_push}
 use Rattle.cove_base.proofs.ScriptLimits.{Limits, limits_of}
-use Rattle.cove_base.specs.HartValues.{HartValue, hosts_after}
+use Rattle.cove_base.specs.HartValues.{HartValue}
 use Rattle.cove_base.specs.PageWords.{host, IsHostWord}
 use Rattle.cove_base.specs.Places.{count_word, epoch_word, answered_word, all_words}
-use Rattle.cove_base.specs.Rings.{found}
-use Rattle.cove_base.specs.Rings.{filled as ring_with}
 use Rattle.cove_base.specs.Scripts.{ScriptValue}
 use Rattle.cove_base.specs.Stores.{AllAllowed, stored}
 use Rattle.cove_base.specs.declared.events.Entry.{Entry}
-use Rattle.cove_base.specs.declared.events.How.TheVariants.{Walk}
 use Rattle.cove_base.specs.declared.events.Walked.{Walked}
 use Rattle.cove_base.specs.declared.events.Walked.TheVariants as walks
-use Rattle.cove_base.specs.declared.numbers.Page.{Page}
 use Rattle.cove_base.specs.declared.walks.Noted.{Noted}
 use Rattle.cove_base.specs.declared.walks.Target.{Target}
 use Rattle.cove_base.specs.declared.walks.Target.TheVariants as targets
 use Rattle.cove_model.proofs.AtTheEnd.{each_push, legal_push, tlb_other}
 use Rattle.cove_model.proofs.BesideProofs.{count_leaves_words}
-use Rattle.cove_model.proofs.Fitting.{ring_filled, ring_finds_page}
-use Rattle.cove_model.proofs.Members.{false-true, has_filled}
+use Rattle.cove_model.proofs.Fitting.{ring_cases, walk_was_host}
+use Rattle.cove_model.proofs.Members.{false-true}
 use Rattle.cove_model.proofs.Playing.{was_longer, was_now}
 use Rattle.cove_model.proofs.StoreLawProofs.{stores_keep_answers, stores_keep_epoch, stores_keep_host, stores_keep_usable}
 use Rattle.cove_model.proofs.ToldProofs.{words_tell_host}
 use Rattle.cove_model.proofs.Usable.{held_since, usable}
-use Rattle.cove_model.specs.BoardRule.{AreBounded, CountsKeepRule, FindsPage, FittingHartsLive, FittingHartsUse, HasFound, IsLive, IsMonitored, ListsKeepRule, LiveWalksWereRight, StoresKeepRule, UnusedLives, WalkLives}
+use Rattle.cove_model.specs.BoardRule.{AreBounded, CountsKeepRule, FittingHartsLive, FittingHartsUse, IsLive, IsMonitored, ListsKeepRule, LiveWalksWereRight, StoresKeepRule, UnusedLives, WalkLives}
 use Rattle.cove_model.specs.Cached.{IsReached, WasHost}
 use Rattle.cove_model.specs.Fits.{Fits, UnusedFits, WalkFits, ring_of, walked_ring}
 use Rattle.cove_model.specs.Histories.{after}
@@ -36,7 +32,7 @@ use Rattle.cove_model.specs.Owners.{Owner, Host, Converting, Free, Given, has, m
 use Rattle.cove_model.specs.States.{State}
 use Rattle.cove_model.specs.Steps.{Allows}
 use Rattle.cove_model.specs.StoreLaw.{IsUsableWord, MayUse}
-use Rattle.cove_model.specs.Tlbs.{Tlb, filled, tlb}
+use Rattle.cove_model.specs.Tlbs.{Tlb, tlb}
 use Rattle.cove_model.specs.WordsStand.{OwnersStand, PageStands, epoch_in, answered_in, maps_of}
 
 -- ---- what words that stand say of a page that a hart may use
@@ -228,17 +224,6 @@ counts_keep_rule script history old now hart entry part bounded countable =
 
 -- ---- the boundary
 
--- a page that a ring of pages names is one of them
-ring_names : (pages : List ℕ) (p : ℕ) → IsSome (found p (ring_of pages)) → has p pages ≡ true
-ring_names pages p named = go (has p pages) (subst IsSome (ring_finds_page pages p) named)
-  where
-    as_page : ℕ → Page
-    as_page k = record { 0 = k }
-
-    go : (b : Bool) → IsSome (cond b (Some (as_page p)) None) → b ≡ true
-    go true some = refl
-    go false some = absurd (false≢true some)
-
 module _ (script : ScriptValue) (limits : Limits script) (history : List Entry) (words : List ℕ) (part : IsMonitored script history words words) where
   lives_in : (h p : ℕ) → may_use h (page_at (after script history).pages p) ≡ true → (p < script.pages) × MayUse script.pages words h p
   lives_in h p may = usable_in script.pages script.harts words (after script history) h p part.stands.owners may
@@ -248,26 +233,6 @@ module _ (script : ScriptValue) (limits : Limits script) (history : List Entry) 
 
   found_lives : (h p : ℕ) → h < script.harts → WasHost script history h p → (p < script.pages) × MayUse script.pages words h p
   found_lives h p on was = lives_in h p (held_since script history h p on was)
-
-  ring_lives : (h p : ℕ) (hosts : List (ℕ × Page)) → hosts ≡ ring_of (tlb script history h).pages → IsSome (found p hosts) → (p < script.pages) × MayUse script.pages words h p
-  ring_lives h p hosts ring named = held_lives h p (ring_names (tlb script history h).pages p (subst (λ r. IsSome (found p r)) ring named))
-
-  walk_usable : (h p : ℕ) (hosts : List (ℕ × Page)) → h < script.harts → (target : Target) (w : Walked) → WalkFits script history h target w → hosts ≡ hosts_after (ring_of (tlb script history h).pages) target w → IsSome (found p hosts) → (p < script.pages) × MayUse script.pages words h p
-  walk_usable h p hosts on (targets.Host q) (walks.Found page) fits ring named =
-      let pages = (tlb script history h).pages in
-      let R = ring_of pages in
-      let is : hosts ≡ ring_of (filled Walk q.0 pages) = ring ∙ ap (ring_with R q.0) fits.1 ∙ sym (ring_filled pages q.0) in
-      ⊎_elim
-      (λ there. held_lives h p there)
-      (λ same. subst (λ k. (k < script.pages) × MayUse script.pages words h k) same (found_lives h q.0 on fits.2))
-      (has_filled Walk p q.0 pages (ring_names (filled Walk q.0 pages) p (subst (λ r. IsSome (found p r)) is named)))
-  walk_usable h p hosts on (targets.Host q) (walks.Missing word) fits ring named = ring_lives h p hosts ring named
-  walk_usable h p hosts on (targets.Fetch g) w fits ring named = absurd fits
-  walk_usable h p hosts on (targets.Access g) w fits ring named = absurd fits
-
-  all_usable : (h p : ℕ) (hosts : List (ℕ × Page)) → h < script.harts → (noted : Option Noted) → UnusedFits script history h noted → hosts ≡ walked_ring (ring_of (tlb script history h).pages) noted → IsSome (found p hosts) → (p < script.pages) × MayUse script.pages words h p
-  all_usable h p hosts on None fits ring named = ring_lives h p hosts ring named
-  all_usable h p hosts on (Some noted) fits ring named = walk_usable h p hosts on noted.target noted.walked fits ring named
 
   walk_lives : (h : ℕ) → h < script.harts → (target : Target) (w : Walked) → WalkFits script history h target w → WalkLives script history words h target w
   walk_lives h on (targets.Host q) (walks.Found page) fits = (fits.1, (found_lives h q.0 on fits.2).0, inr fits.2)
@@ -282,28 +247,19 @@ module _ (script : ScriptValue) (limits : Limits script) (history : List Entry) 
   live_of : (held : HartValue) → Fits script history held → IsLive script history words held
   live_of held fits = record {
     on_board = fits.on_board;
-    usable = λ p named. all_usable held.hart p held.hosts fits.on_board held.walked fits.walk fits.ring named;
+    usable = λ p named.
+        ⊎_elim (held_lives held.hart p) (found_lives held.hart p fits.on_board)
+        (ring_cases script history held.hart p held.hosts held.walked fits.walk fits.ring named);
     walk = unused_lives held.hart fits.on_board held.walked fits.walk;
     ring = fits.ring;
   }
-
-  -- the page of an unused walk
-  walk_named : (h p : ℕ) → h < script.harts → (target : Target) (w : Walked) → WalkFits script history h target w → FindsPage target w p → (p < script.pages) × MayUse script.pages words h p
-  walk_named h p on (targets.Host q) (walks.Found page) fits same = subst (λ k. (k < script.pages) × MayUse script.pages words h k) same (found_lives h q.0 on fits.2)
-  walk_named h p on (targets.Host q) (walks.Missing word) fits same = absurd same
-  walk_named h p on (targets.Fetch g) w fits same = absurd same
-  walk_named h p on (targets.Access g) w fits same = absurd same
-
-  unused_named : (h p : ℕ) → h < script.harts → (noted : Option Noted) → UnusedFits script history h noted → HasFound noted p → (p < script.pages) × MayUse script.pages words h p
-  unused_named h p on None fits same = absurd same
-  unused_named h p on (Some noted) fits same = walk_named h p on noted.target noted.walked fits same
 
 pub fitting_harts_use : FittingHartsUse
 fitting_harts_use script history words held p within part fits named =
     let limits = limits_of script within in
     ⊎_elim
     (λ ring. (live_of script limits history words part held fits).usable p ring)
-    (λ walk. unused_named script limits history words part held.hart p fits.on_board held.walked fits.walk walk)
+    (λ walk. found_lives script limits history words part held.hart p fits.on_board (walk_was_host script history held.hart p held.walked fits.walk walk))
     named
 
 pub fitting_harts_live : FittingHartsLive

@@ -3,6 +3,7 @@ use Rattle.cove_base.specs.HartLines.{next_line}
 use Rattle.cove_base.specs.HartPlaces.{IsNextPlace}
 use Rattle.cove_base.specs.HartValues.{HartValue, after_walk, hosts_after}
 use Rattle.cove_base.specs.Rings.{found, keep_last, ring_room}
+use Rattle.cove_base.specs.Rings.{filled as ring_with}
 use Rattle.cove_base.specs.Scripts.{ScriptValue}
 use Rattle.cove_base.specs.declared.events.Entry.{Entry}
 use Rattle.cove_base.specs.declared.events.How.TheVariants.{Walk}
@@ -11,16 +12,20 @@ use Rattle.cove_base.specs.declared.numbers.Page.{Page}
 use Rattle.cove_base.specs.declared.walks.Noted.{Noted}
 use Rattle.cove_base.specs.declared.walks.Target.{Target}
 use Rattle.cove_model.proofs.AtTheEnd.{after_push, ended_other, ended_own, tlb_other, tlb_same}
+use Rattle.cove_model.proofs.Members.{has_filled}
 use Rattle.cove_model.proofs.Playing.{was_longer, was_now}
 use Rattle.cove_model.proofs.Soundness.{board_of}
+use Rattle.cove_model.specs.BoardRule.{FindsPage, HasFound}
+use Rattle.cove_model.specs.Cached.{WasHost}
 use Rattle.cove_model.specs.Fits.{Fits, IsSought, UnusedFits, WalkFits, after_own, ring_of, walked_ring}
 use Rattle.cove_model.specs.Histories.{after}
 use Rattle.cove_model.specs.Owners.{has, is_host, page_at}
 use Rattle.cove_model.specs.Played.{noted, walked}
 use Rattle.cove_model.specs.States.{ended_by}
 use Rattle.cove_model.specs.Steps.{after_event}
-use Rattle.cove_model.specs.Tlbs.{Tlb, filled, tlb}
-use Rattle.std.proofs.Common.{Bool, List, None, Option, Some, [], ap, arith, cond, drop, eqb, eqb-true, false, find, length, map, option_map, refl, sym, true, ℕ, ◌++◌, ◌+◌, ◌-◌, ◌||◌, ◌∙◌, ◌∷◌, ◌≡◌}
+use Rattle.cove_model.specs.Tlbs.{Tlb, pages_filled, tlb}
+use Rattle.std.proofs.Common.{Bool, IsSome, List, None, Option, Some, [], ap, arith, cond, drop, eqb, eqb-true, false, find, inl, inr, length, map, option_map, refl, subst, sym, true, ⊎_elim, ◌⊎◌, ℕ, ◌++◌, ◌+◌, ◌-◌, ◌||◌, ◌∙◌, ◌∷◌, ◌≡◌}
+use Rattle.std.proofs.lemmas.Bool.{false≢true}
 use Rattle.std.proofs.lemmas.List.{drop-map, length-map, map-append}
 use Rattle.cove_base.specs.declared.walks.Target.TheVariants as targets
 use Rattle.cove_base.specs.declared.events.Walked.TheVariants as walks
@@ -81,7 +86,7 @@ keep_map : {X Y : Type 0} (f : X → Y) (n : ℕ) (xs : List X) → keep_last n 
 keep_map f n xs = ap (λ k. drop (k - n) (map f xs)) (length-map xs f) ∙ drop-map f (length xs - n) xs
 
 -- a ring is filled as its list of pages is
-pub ring_filled : (pages : List ℕ) (p : ℕ) → ring_of (filled Walk p pages) ≡ keep_last ring_room (ring_of pages ++ (p, record { 0 = p }) ∷ [])
+pub ring_filled : (pages : List ℕ) (p : ℕ) → ring_of (pages_filled Walk p pages) ≡ keep_last ring_room (ring_of pages ++ (p, record { 0 = p }) ∷ [])
 ring_filled pages p =
     sym (keep_map as_pair ring_room (pages ++ p ∷ [])) ∙ ap (keep_last ring_room) (map-append as_pair pages (p ∷ []))
   where
@@ -117,15 +122,42 @@ fits_entered script H e held place fits same stands =
       walk = tt;
     }
 
--- a ring without an unused walk that found its page is the hart's translations
-pub ring_plain : (script : ScriptValue) (H : List Entry) (held : HartValue) → Fits script H held → held.walked ≡ None → held.hosts ≡ ring_of (tlb script H held.hart).pages
-ring_plain script H held fits none = fits.ring ∙ ap (walked_ring (ring_of (tlb script H held.hart).pages)) none
+-- ---- what a hart names
 
-pub ring_missing : (script : ScriptValue) (H : List Entry) (held : HartValue) (p : Page) (word : ℕ) → Fits script H held → held.walked ≡ Some (record { target = targets.Host p; walked = walks.Missing word }) → held.hosts ≡ ring_of (tlb script H held.hart).pages
-ring_missing script H held p word fits missing = fits.ring ∙ ap (walked_ring (ring_of (tlb script H held.hart).pages)) missing
+-- a page that a ring of pages names is one of them
+ring_names : (pages : List ℕ) (p : ℕ) → IsSome (found p (ring_of pages)) → has p pages ≡ true
+ring_names pages p named = go (has p pages) (subst IsSome (ring_finds_page pages p) named)
+  where
+    as_page : ℕ → Page
+    as_page k = record { 0 = k }
 
--- with one, it is the translations after the success by that walk
-pub ring_found : (script : ScriptValue) (H : List Entry) (held : HartValue) (p : Page) → Fits script H held → held.walked ≡ Some (record { target = targets.Host p; walked = walks.Found p }) → held.hosts ≡ ring_of (filled Walk p.0 (tlb script H held.hart).pages)
-ring_found script H held p fits found' =
-    fits.ring ∙ ap (walked_ring (ring_of (tlb script H held.hart).pages)) found'
-    ∙ sym (ring_filled (tlb script H held.hart).pages p.0)
+    go : (b : Bool) → IsSome (cond b (Some (as_page p)) None) → b ≡ true
+    go true some = refl
+    go false some = absurd (false≢true some)
+
+-- what an unused walk found was the host's since the hart's last entry
+pub walk_was_host : (script : ScriptValue) (H : List Entry) (h p : ℕ) (noted : Option Noted) → UnusedFits script H h noted → HasFound noted p → WasHost script H h p
+walk_was_host script H h p None fits same = absurd same
+walk_was_host script H h p (Some noted) fits same = go noted.target noted.walked fits same
+  where
+    go : (target : Target) (w : Walked) → WalkFits script H h target w → FindsPage target w p → WasHost script H h p
+    go (targets.Host q) (walks.Found page) fits same = subst (WasHost script H h) same fits.2
+    go (targets.Host q) (walks.Missing word) fits same = absurd same
+    go (targets.Fetch g) w fits same = absurd same
+    go (targets.Access g) w fits same = absurd same
+
+-- a page that the ring of a fitting hart names is one of its translations, or was the host's since its last entry
+pub ring_cases : (script : ScriptValue) (H : List Entry) (h p : ℕ) (hosts : List (ℕ × Page)) (noted : Option Noted) → UnusedFits script H h noted → hosts ≡ walked_ring (ring_of (tlb script H h).pages) noted → IsSome (found p hosts) → (has p (tlb script H h).pages ≡ true) ⊎ WasHost script H h p
+ring_cases script H h p hosts None fits ring named = inl (ring_names (tlb script H h).pages p (subst (λ r. IsSome (found p r)) ring named))
+ring_cases script H h p hosts (Some noted) fits ring named = go noted.target noted.walked fits ring
+  where
+    go : (target : Target) (w : Walked) → WalkFits script H h target w → hosts ≡ hosts_after (ring_of (tlb script H h).pages) target w → (has p (tlb script H h).pages ≡ true) ⊎ WasHost script H h p
+    go (targets.Host q) (walks.Found page) fits ring =
+        let pages = (tlb script H h).pages in
+        let R = ring_of pages in
+        let is : hosts ≡ ring_of (pages_filled Walk q.0 pages) = ring ∙ ap (ring_with R q.0) fits.1 ∙ sym (ring_filled pages q.0) in
+        ⊎_elim inl (λ same. inr (subst (WasHost script H h) same fits.2))
+        (has_filled Walk p q.0 pages (ring_names (pages_filled Walk q.0 pages) p (subst (λ r. IsSome (found p r)) is named)))
+    go (targets.Host q) (walks.Missing word) fits ring = inl (ring_names (tlb script H h).pages p (subst (λ r. IsSome (found p r)) ring named))
+    go (targets.Fetch g) w fits ring = absurd fits
+    go (targets.Access g) w fits ring = absurd fits

@@ -3,7 +3,7 @@ use Rattle.std.proofs.Common.{◌≡◌, ◌≢◌, ℕ, zero, suc, ◌+◌, ◌
 use Rattle.std.proofs.lemmas.Bool.{cases_lt}
 use Rattle.std.proofs.lemmas.List.{length-map}
 use Rattle.std.proofs.lemmas.Grind.{get_or-set_at}
-use Rattle.cove_model.specs.Owners.{Owner, Host, Converting, Free, Given, page_at, without, settled, converted, fenced, answered, reclaimed, change, zeros}
+use Rattle.cove_model.specs.Owners.{Owner, Host, Converting, Free, Given, page_at, without, settled, converted, fenced, fence_answered, reclaimed, change, zeros}
 use Rattle.cove_model.specs.States.{harts_below}
 use Rattle.cove_model.specs.WordsStand.{FrameStands}
 use Rattle.cove_model.specs.WordLaws.{zeroed, ConvertKeepsFrames, GlobalFenceKeepsFrames, LocalFenceKeepsFrames, ReclaimZeroesFrames}
@@ -27,7 +27,7 @@ fenced_frame frame hart others (Converting held (Some waiting) words) h = settle
 fenced_frame frame hart others Free h = h
 fenced_frame frame hart others (Given tvm purpose) h = h
 
-answered_frame : (frame : List ℕ) (hart : ℕ) (o : Owner) → FrameStands frame o → FrameStands frame (answered hart o)
+answered_frame : (frame : List ℕ) (hart : ℕ) (o : Owner) → FrameStands frame o → FrameStands frame (fence_answered hart o)
 answered_frame frame hart (Host words) h = h
 answered_frame frame hart (Converting held None words) h = h
 answered_frame frame hart (Converting held (Some waiting) words) h = settled_frame frame (without hart held) (without hart waiting) words h
@@ -55,8 +55,8 @@ global_fence_keeps_frames frames S hart old =
 
 pub local_fence_keeps_frames : LocalFenceKeepsFrames
 local_fence_keeps_frames frames S hart old = record {
-  count = old.count ∙ sym (length-map S.pages (answered hart));
-  frame = λ p within. subst (FrameStands (get_or frames p [])) (sym (page_map (answered hart) refl S.pages p)) (answered_frame (get_or frames p []) hart (page_at S.pages p) (old.frame p within));
+  count = old.count ∙ sym (length-map S.pages (fence_answered hart));
+  frame = λ p within. subst (FrameStands (get_or frames p [])) (sym (page_map (fence_answered hart) refl S.pages p)) (answered_frame (get_or frames p []) hart (page_at S.pages p) (old.frame p within));
 }
 
 pub length-zeroed : (frames : List (List ℕ)) (first n : ℕ) → length (zeroed frames first n) ≡ length frames

@@ -24,3 +24,5 @@ pub mod OpeningStandsProofs
 pub mod GrammarLimits
 pub mod StoreLawProofs
 pub mod BoardRuleProofs
+pub mod HostMemoryProofs
+pub mod FirstCheckProofs

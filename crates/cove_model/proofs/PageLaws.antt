@@ -2,7 +2,7 @@
 use Rattle.std.proofs.Common.{◌≡◌, ◌≢◌, ℕ, ◌+◌, ◌<◌, ◌≤◌, List, [], ◌∷◌, Some, None, refl, sym, ◌∙◌, ap, subst, inl, inr, arith, true}
 use Rattle.std.proofs.lemmas.Bool.{cases_eq, false≢true}
 use Rattle.cove_base.specs.PageWords.{converting}
-use Rattle.cove_model.specs.Owners.{Owner, Host, Converting, Free, Given, has, without, settled, converted, fenced, answered}
+use Rattle.cove_model.specs.Owners.{Owner, Host, Converting, Free, Given, has, without, settled, converted, fenced, fence_answered}
 use Rattle.cove_model.specs.States.{harts_below}
 use Rattle.cove_model.specs.WordsStand.{PageStands, IsAnsweredByAll, harts_behind}
 use Rattle.cove_model.proofs.HartLists.{behind_has, none_behind, has_first, others_behind, without-behind}
@@ -65,7 +65,7 @@ fenced_page harts hart epoch before after on all own others maps word Free (inr 
 fenced_page harts hart epoch before after on all own others maps word (Given tvm purpose) stands = stands
 
 -- a local fence of a hart, which has answered the epoch then
-pub answered_page : (harts hart epoch : ℕ) (before after : ℕ → ℕ) → hart < harts → ((k : ℕ) → k < harts → before k ≤ epoch) → after hart ≡ epoch → ((k : ℕ) → k ≢ hart → after k ≡ before k) → (maps word : ℕ) (owner : Owner) → PageStands harts epoch before maps word owner → PageStands harts epoch after maps word (answered hart owner)
+pub answered_page : (harts hart epoch : ℕ) (before after : ℕ → ℕ) → hart < harts → ((k : ℕ) → k < harts → before k ≤ epoch) → after hart ≡ epoch → ((k : ℕ) → k ≢ hart → after k ≡ before k) → (maps word : ℕ) (owner : Owner) → PageStands harts epoch before maps word owner → PageStands harts epoch after maps word (fence_answered hart owner)
 answered_page harts hart epoch before after on within own others maps word (Host words) stands = stands
 answered_page harts hart epoch before after on within own others maps word (Converting held None words) stands = record {
   since = stands.since;

@@ -12,7 +12,7 @@ use Rattle.cove_model.proofs.Runs.{change_cases, length_change, opening_length, 
 use Rattle.cove_model.specs.Effects.{effect, refusal, state_by}
 use Rattle.cove_model.specs.Examples.{board, call}
 use Rattle.cove_model.specs.Histories.{after}
-use Rattle.cove_model.specs.Owners.{Converting, Free, Given, Host, Owner, answered, converted, fenced, has, page_at, reclaimed, settled, word_stored, without}
+use Rattle.cove_model.specs.Owners.{Converting, Free, Given, Host, Owner, fence_answered, converted, fenced, has, page_at, reclaimed, settled, word_stored, without}
 use Rattle.cove_model.specs.Refusals.{first_failing}
 use Rattle.cove_model.specs.Sound.{IsBoardOf, IsSound, IsSoundPage, Rises, Within}
 use Rattle.cove_model.specs.States.{State, harts_below, opening, page_of, word_place}
@@ -32,7 +32,7 @@ pub data Move (S T : State) (h : ℕ) (old new : Owner) : Type 0 where
   Reclaims : T.unanswered ≡ S.unanswered → new ≡ reclaimed old → Move S T h old new
   Stores : (place value : ℕ) → T.unanswered ≡ S.unanswered → new ≡ word_stored place value old → Move S T h old new
   Fences : S.unanswered ≡ [] → T.unanswered ≡ without h (harts_below S.harts) → new ≡ fenced h (without h (harts_below S.harts)) old → Move S T h old new
-  Responds : T.unanswered ≡ without h S.unanswered → new ≡ answered h old → Move S T h old new
+  Responds : T.unanswered ≡ without h S.unanswered → new ≡ fence_answered h old → Move S T h old new
 
 pub all_answered : (S : State) (h : ℕ) → refusal S h GlobalFence ≡ None → S.unanswered ≡ []
 all_answered S h e = go S.unanswered e
@@ -44,7 +44,7 @@ all_answered S h e = go S.unanswered e
 move_effect : (S : State) (h : ℕ) (call : HostCall) (p : ℕ) → refusal S h call ≡ None → Move S (effect S h call) h (page_at S.pages p) (page_at (effect S h call).pages p)
 move_effect S h (Convert base n) p ok = ⊎_elim (λ e. Same refl e) (λ e. Converts refl e) (change_cases (converted (harts_below S.harts)) (base / 4096) n S.pages p)
 move_effect S h GlobalFence p ok = Fences (all_answered S h ok) refl (page_map (fenced h (without h (harts_below S.harts))) refl S.pages p)
-move_effect S h LocalFence p ok = Responds refl (page_map (answered h) refl S.pages p)
+move_effect S h LocalFence p ok = Responds refl (page_map (fence_answered h) refl S.pages p)
 move_effect S h (Reclaim base n) p ok = ⊎_elim (λ e. Same refl e) (λ e. Reclaims refl e) (change_cases reclaimed (base / 4096) n S.pages p)
 move_effect S h _ p ok = Same refl refl
 
@@ -109,7 +109,7 @@ sound_fenced S T h (Converting held (Some waiting) words) all u sound =
 sound_fenced S T h Free all u sound = tt
 sound_fenced S T h (Given tvm purpose) all u sound = tt
 
-sound_answered : (S T : State) (h : ℕ) (o : Owner) → T.harts ≡ S.harts → T.unanswered ≡ without h S.unanswered → IsSoundPage S o → IsSoundPage T (answered h o)
+sound_answered : (S T : State) (h : ℕ) (o : Owner) → T.harts ≡ S.harts → T.unanswered ≡ without h S.unanswered → IsSoundPage S o → IsSoundPage T (fence_answered h o)
 sound_answered S T h (Host words) e u sound = sound
 sound_answered S T h (Converting held None words) e u sound = (sound.0, subst (λ k. Within (without h held) (harts_below k)) (sym e) (within_without h held (harts_below S.harts) sound.1))
 sound_answered S T h (Converting held (Some waiting) words) e u sound =
@@ -182,7 +182,7 @@ effect_key S h _ = refl
 effect_size : (S : State) (h : ℕ) (call : HostCall) → length (effect S h call).pages ≡ length S.pages
 effect_size S h (Convert base n) = length_change (converted (harts_below S.harts)) (base / 4096) n S.pages
 effect_size S h GlobalFence = length-map S.pages (fenced h (without h (harts_below S.harts)))
-effect_size S h LocalFence = length-map S.pages (answered h)
+effect_size S h LocalFence = length-map S.pages (fence_answered h)
 effect_size S h (Reclaim base n) = length_change reclaimed (base / 4096) n S.pages
 effect_size S h _ = refl
 

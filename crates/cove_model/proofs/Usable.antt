@@ -18,7 +18,7 @@ use Rattle.cove_model.specs.Cached.{WasHost}
 use Rattle.cove_model.specs.Effects.{effect, refusal, state_by, value_of}
 use Rattle.cove_model.specs.Examples.{call}
 use Rattle.cove_model.specs.Histories.{Legal, after, own}
-use Rattle.cove_model.specs.Owners.{Converting, Free, Given, Host, Owner, TheHost, answered, change, converted, fenced, has, holder, is_host, may_use, page_at, reclaimed, settled, word_stored, without}
+use Rattle.cove_model.specs.Owners.{Converting, Free, Given, Host, Owner, TheHost, fence_answered, change, converted, fenced, has, holder, is_host, may_use, page_at, reclaimed, settled, word_stored, without}
 use Rattle.cove_model.specs.Sound.{IsSound, IsSoundPage}
 use Rattle.cove_model.specs.States.{State, ended_by, harts_below, page_of, word_place}
 use Rattle.cove_model.specs.Steps.{Answers, after_event, asked, done}
@@ -61,7 +61,7 @@ use_fenced S k h (Converting held (Some waiting) words) sound lt ne e = use_sett
 use_fenced S k h Free sound lt ne e = e
 use_fenced S k h (Given tvm purpose) sound lt ne e = e
 
-use_answered : (S : State) (k h : ℕ) (o : Owner) → IsSoundPage S o → (h ≡ k → ⊥) → may_use h o ≡ true → may_use h (answered k o) ≡ true
+use_answered : (S : State) (k h : ℕ) (o : Owner) → IsSoundPage S o → (h ≡ k → ⊥) → may_use h o ≡ true → may_use h (fence_answered k o) ≡ true
 use_answered S k h (Host words) sound ne e = refl
 use_answered S k h (Converting held None words) sound ne e = has_without k h ne held e
 use_answered S k h (Converting held (Some waiting) words) sound ne e = use_settled h (without k held) (without k waiting) words (has_without k h ne held e) (has_without k h ne waiting (sound.1 h e))

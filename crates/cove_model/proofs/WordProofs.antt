@@ -3,7 +3,7 @@ use Rattle.std.proofs.Common.{◌≡◌, ◌≢◌, ℕ, ◌+◌, ◌/◌, ◌<�
 use Rattle.std.proofs.lemmas.Bool.{cases_eq}
 use Rattle.cove_base.specs.PageWords.{host, converting}
 use Rattle.cove_base.specs.Places.{epoch_word, answered_word, all_words}
-use Rattle.cove_model.specs.Owners.{Owner, Host, Converting, Free, Given, without, page_at, converted, fenced, answered, reclaimed}
+use Rattle.cove_model.specs.Owners.{Owner, Host, Converting, Free, Given, without, page_at, converted, fenced, fence_answered, reclaimed}
 use Rattle.cove_model.specs.States.{harts_below}
 use Rattle.cove_model.specs.WordsStand.{PageStands, is_table, epoch_in, answered_in, maps_of, harts_behind}
 use Rattle.cove_model.specs.WordLaws.{ConvertStands, GlobalFenceStands, LocalFenceStands, ReclaimStands}
@@ -30,7 +30,7 @@ fenced_tables hart others (Converting held waiting words) e = refl
 fenced_tables hart others Free e = refl
 fenced_tables hart others (Given tvm purpose) e = e
 
-answered_tables : (hart : ℕ) (o : Owner) → is_table (answered hart o) ≡ false → is_table o ≡ false
+answered_tables : (hart : ℕ) (o : Owner) → is_table (fence_answered hart o) ≡ false → is_table o ≡ false
 answered_tables hart (Host words) e = refl
 answered_tables hart (Converting held waiting words) e = refl
 answered_tables hart Free e = refl
@@ -121,14 +121,14 @@ local_fence_stands pages harts words S hart on stand =
     λ k ne.
     let two : answered_word pages k ≢ answered_word pages hart = omega arith in
     get_or-set_other words (answered_word pages hart) (answered_word pages k) epoch 0 two in
-    let each : (maps word : ℕ) (o : Owner) → PageStands harts epoch before maps word o → PageStands harts (epoch_in pages words') after maps word (answered hart o) =
+    let each : (maps word : ℕ) (o : Owner) → PageStands harts epoch before maps word o → PageStands harts (epoch_in pages words') after maps word (fence_answered hart o) =
     λ maps word o h.
-    subst (λ e. PageStands harts e after maps word (answered hart o)) (sym same)
+    subst (λ e. PageStands harts e after maps word (fence_answered hart o)) (sym same)
     (answered_page harts hart epoch before after on stand.within own others maps word o h) in
     let behind : without hart S.unanswered ≡ harts_behind harts after (epoch_in pages words') =
     ap (without hart) stand.stands.owners.unanswered ∙ without-behind harts hart before after epoch (omega arith) others ∙ ap (λ e. harts_behind harts after e) (sym same) in
     record {
-      stands = answered_stand pages harts hart words words' S (answered hart) (without hart S.unanswered) on (length-set words (answered_word pages hart) epoch) kept refl (answered_tables hart) each behind stand.stands;
+      stands = answered_stand pages harts hart words words' S (fence_answered hart) (without hart S.unanswered) on (length-set words (answered_word pages hart) epoch) kept refl (answered_tables hart) each behind stand.stands;
       within = λ k within. elim (cases_eq k hart) [
         | inl is ↦ let up : after k ≡ epoch = ap after is ∙ own in omega arith
         | inr ne ↦ let a : after k ≡ before k = others k ne in let most : before k ≤ epoch = stand.within k within in omega arith

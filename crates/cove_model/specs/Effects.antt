@@ -1,7 +1,7 @@
 -- What each call needs and does, and what it is answered.
 use Rattle.std.specs.Prelude.{ℕ, ◌/◌, Bool, true, List, [], ◌∷◌, map, Option, Some, None, is_some, unwrap_or}
 use Rattle.cove_model.specs.Types.{HostCall, Convert, GlobalFence, LocalFence, Reclaim, Create, Region, Tables, Measured, Vcpu, Finalize, Zero, Shared, Run, Invalidate, TvmFence, Validate, Remove, Destroy, Kick, Info, Bind, Unbind, Unbound, Inject, Reply, Success, NotSupported}
-use Rattle.cove_model.specs.Owners.{without, converted, fenced, answered, reclaimed, change}
+use Rattle.cove_model.specs.Owners.{without, converted, fenced, fence_answered, reclaimed, change}
 use Rattle.cove_model.specs.States.{State, harts_below}
 use Rattle.cove_model.specs.Refusals.{Check, first_failing, plain, Count, Aligned, Inside, AllHost, AllFree, NoneShared, AllAnswered}
 
@@ -33,7 +33,7 @@ rule GlobalFence = Some (record {
 })
 rule LocalFence = Some (record {
   checks = λ S h. [];
-  outcome = λ S h. plainly (record S { pages = map (answered h) S.pages; unanswered = without h S.unanswered });
+  outcome = λ S h. plainly (record S { pages = map (fence_answered h) S.pages; unanswered = without h S.unanswered });
 })
 rule (Reclaim base n) = Some (record {
   checks = λ S h. Count n ∷ Aligned base ∷ Inside S base n ∷ AllFree S base n ∷ [];

@@ -1,7 +1,9 @@
 pub mod Types
 pub mod Owners
 pub mod States
+pub mod HostMemory
 pub mod Refusals
+pub mod FirstChecks
 pub mod Effects
 pub mod Offers
 pub mod Steps

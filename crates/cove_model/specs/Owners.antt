@@ -57,10 +57,10 @@ fenced hart others (Converting held (Some waiting) words) = settled (without har
 fenced hart others owner = owner
 
 -- a page after a local fence of a hart
-abbrev pub answered : (hart : ℕ) → Owner → Owner
-answered hart (Converting held None words) = Converting (without hart held) None words
-answered hart (Converting held (Some waiting) words) = settled (without hart held) (without hart waiting) words
-answered hart owner = owner
+abbrev pub fence_answered : (hart : ℕ) → Owner → Owner
+fence_answered hart (Converting held None words) = Converting (without hart held) None words
+fence_answered hart (Converting held (Some waiting) words) = settled (without hart held) (without hart waiting) words
+fence_answered hart owner = owner
 
 -- a free page after it was given back to the host
 abbrev pub reclaimed : Owner → Owner

@@ -23,9 +23,9 @@ abbrev pub without_guests : Tlb → Tlb
 without_guests held = record held { fetches = []; accesses = [] }
 
 -- the pages after a success: a hit changes none, a walk adds its page, for which a full list gives up its oldest
-abbrev pub filled : How → (p : ℕ) → List ℕ → List ℕ
-filled Hit p pages = pages
-filled Walk p pages = keep_last ring_room (pages ++ p ∷ [])
+abbrev pub pages_filled : How → (p : ℕ) → List ℕ → List ℕ
+pages_filled Hit p pages = pages
+pages_filled Walk p pages = keep_last ring_room (pages ++ p ∷ [])
 
 -- the translations after a call: an accepted global fence and every local fence empty all, an accepted run those of guests
 abbrev pub after_call : HostCall → (accepted : Bool) → Tlb → Tlb
@@ -67,9 +67,9 @@ after_act GuestAct.Other accepted held = held
 -- the translations of a hart after an event of its own in a state; no guest fetches or accesses yet
 abbrev pub renewed : State → Tlb → Event → Tlb
 renewed S held (Event.Call call reply) = after_call call (is_success reply.status) held
-renewed S held (Event.Load addr how value) = record held { pages = filled how (page_of addr) held.pages }
+renewed S held (Event.Load addr how value) = record held { pages = pages_filled how (page_of addr) held.pages }
 renewed S held (Event.LoadFault addr) = held
-renewed S held (Event.Store addr value how) = record held { pages = filled how (page_of addr) held.pages }
+renewed S held (Event.Store addr value how) = record held { pages = pages_filled how (page_of addr) held.pages }
 renewed S held (Event.StoreFault addr value) = held
 renewed S held (Event.Fetch how) = held
 renewed S held Event.Exec = held

@@ -164,28 +164,3 @@ pub fn still_rounds_are_last()
     ensures { (limit : ℕ) (script : ScriptValue) (play : Play)
         → round limit script play ≡ play → IsEnded limit script play.history }
 {}
-
-/// The first check that fails answers: on a fresh board of 16 pages, and for a page that is converted twice.
-pub fn first_checks_answer()
-    ensures misaligned { refusal fresh 0 (Convert 0x4001 1) ≡ refused InvalidAddress }
-    ensures no_pages { refusal fresh 0 (Convert 0x4000 0) ≡ refused InvalidParam }
-    ensures count_first { refusal fresh 0 (Convert 0x4001 17) ≡ refused InvalidParam }
-    ensures last_page { refusal fresh 0 (Convert 0xf000 1) ≡ None }
-    ensures past_memory { refusal fresh 0 (Convert 0x10000 1) ≡ refused InvalidAddress }
-    ensures over_the_end { refusal fresh 0 (Convert 0xe000 3) ≡ refused InvalidAddress }
-    ensures twice { refusal (state_after fresh 0 (Convert 0x4000 1)) 0 (Convert 0x4000 1) ≡ refused InvalidAddress }
-    ensures not_built { refusal fresh 0 Info ≡ refused NotSupported }
-{}
-
-/// What the definitions give of three scripts: the histories that they play, and the journals of two of them.
-pub fn worked_examples()
-    ensures there_and_back { played 5 there_and_back ≡ there_and_back_history }
-    ensures there_and_back_report { report there_and_back_history
-        ≡ text (codes "0 convert 0x4000 0x1 = 0 0x0" ∷ codes "0 gfence = 0 0x0" ∷ codes "0 reclaim 0x4000 0x1 = 0 0x0" ∷ codes "end 3" ∷ []) }
-    ensures during_a_fence { played 8 during_a_fence ≡ during_a_fence_history }
-    ensures stale { played 8 stale ≡ stale_history 0x8877665544332211 Hit }
-    ensures stale_report { report (stale_history 0x8877665544332211 Hit)
-        ≡ text (codes "1 ld 0x4000 walk 8877665544332211" ∷ codes "0 convert 0x4000 0x1 = 0 0x0" ∷ codes "1 ld 0x4000 hit 8877665544332211" ∷ codes "0 ld 0x4000 walk fault" ∷ codes "end 4" ∷ []) }
-    ensures no_walk { IsCached stale (stale_history 0x8877665544332211 Walk) → ⊥ }
-    ensures no_fault { Legal (board 1 [] (load 0 0x4000 ∷ []) []) (faulted 0 0x4000 ∷ []) → ⊥ }
-{}

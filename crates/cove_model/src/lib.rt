@@ -3,17 +3,24 @@
 //! a script plays, and the grammar of scripts. They stand in specs/; this crate has their laws, each on a
 //! function with an empty body.
 
+mod examples;
 mod laws;
+mod promises;
 mod readings;
 mod rules;
 mod standing;
 
-pub use laws::{
-    first_checks_answer, harts_keep_fitting, legal_histories_are_quiet, legal_histories_begin,
-    offers_are_allowed, one_entry_later, others_untouched, played_histories_are_legal,
-    states_are_sound, steps_are_determined, still_rounds_are_last, translations_are_usable,
-    unbuilt_calls_are_refused, worked_examples,
+pub use examples::{
+    worked_fills, worked_lines, worked_plays, worked_quiet, worked_refusals, worked_reports,
+    worked_runs, worked_steps, worked_translations, worked_words,
 };
+pub use laws::{
+    harts_keep_fitting, legal_histories_are_quiet, legal_histories_begin, offers_are_allowed,
+    one_entry_later, others_untouched, played_histories_are_legal, states_are_sound,
+    steps_are_determined, still_rounds_are_last, translations_are_usable,
+    unbuilt_calls_are_refused,
+};
+pub use promises::{first_failing_checks_answer, host_reads_show_host_memory};
 pub use readings::{Place, Reading};
 pub use rules::{boundary_law, store_law};
 pub use standing::{frames_law, lawful_law, telling_law, words_law};

@@ -25,7 +25,7 @@ use Rattle.cove_journal.specs.Forms.{is_byte, is_event_shown, is_sized, is_word}
 use Rattle.cove_journal.specs.Journals.{is_readable}
 use Rattle.cove_model.specs.Effects.{effect, refusal, reply_to, state_by, value_of}
 use Rattle.cove_model.specs.Histories.{Legal, after}
-use Rattle.cove_model.specs.Owners.{Converting, Free, Given, Host, Owner, answered, change, converted, fenced, has, page_at, reclaimed, settled, word_stored, without, words_of, zeros}
+use Rattle.cove_model.specs.Owners.{Converting, Free, Given, Host, Owner, fence_answered, change, converted, fenced, has, page_at, reclaimed, settled, word_stored, without, words_of, zeros}
 use Rattle.cove_model.specs.Refusals.{AllAnswered, AllFree, AllHost, Aligned, Check, Count, Inside, NoneShared, first_failing}
 use Rattle.cove_model.specs.Sound.{IsSound}
 use Rattle.cove_model.specs.States.{State, byte_after, ended_by, harts_below, opening, opening_byte, opening_words, page_of, word_place}
@@ -74,7 +74,7 @@ fenced_fits hart others (Converting held (Some waiting) words) e = settled_fits 
 fenced_fits hart others Free e = e
 fenced_fits hart others (Given tvm purpose) e = e
 
-answered_fits : (hart : ℕ) (owner : Owner) → page_fits owner ≡ true → page_fits (answered hart owner) ≡ true
+answered_fits : (hart : ℕ) (owner : Owner) → page_fits owner ≡ true → page_fits (fence_answered hart owner) ≡ true
 answered_fits hart (Host words) e = e
 answered_fits hart (Converting held None words) e = e
 answered_fits hart (Converting held (Some waiting) words) e = settled_fits (without hart held) (without hart waiting) words e
@@ -108,7 +108,7 @@ effect_fits : (S : State) (h : ℕ) (call : HostCall) → Fits S → Fits (effec
 effect_fits S h (Convert base n) fits p = change_fits (converted (harts_below S.harts)) (converted_fits (harts_below S.harts)) (base / 4096) n S.pages p (fits p)
 effect_fits S h GlobalFence fits p =
     ap page_fits (page_map (fenced h (without h (harts_below S.harts))) refl S.pages p) ∙ fenced_fits h (without h (harts_below S.harts)) (page_at S.pages p) (fits p)
-effect_fits S h LocalFence fits p = ap page_fits (page_map (answered h) refl S.pages p) ∙ answered_fits h (page_at S.pages p) (fits p)
+effect_fits S h LocalFence fits p = ap page_fits (page_map (fence_answered h) refl S.pages p) ∙ answered_fits h (page_at S.pages p) (fits p)
 effect_fits S h (Reclaim base n) fits p = change_fits reclaimed reclaimed_fits (base / 4096) n S.pages p (fits p)
 effect_fits S h _ fits p = fits p
 

@@ -1,0 +1,97 @@
+-- The first check that fails answers.
+use Rattle.std.proofs.Common.{◌≡◌, ℕ, zero, suc, ◌⊎◌, inl, inr, Bool, true, false, List, [], ◌∷◌, take, slice_get, Some, None, refl, sym, ◌∙◌, ap, subst, true≢false, unwrap_or, ◌↔◌}
+use Rattle.std.proofs.lemmas.Bool.{cond-false, cond-true}
+use Rattle.std.proofs.lemmas.Option.{none-some, same_Some}
+use Rattle.std.specs.List.{AllByRecursion}
+use Rattle.cove_base.specs.Statuses.{is_success}
+use Rattle.cove_base.specs.declared.calls.HostCall.{HostCall}
+use Rattle.cove_base.specs.declared.calls.HostCall.TheVariants.{Convert, GlobalFence, LocalFence, Reclaim}
+use Rattle.cove_base.specs.declared.statuses.Reply.{Reply}
+use Rattle.cove_base.specs.declared.statuses.Status.TheVariants.{Success}
+use Rattle.cove_model.specs.Effects.{effect, outcome, refusal, reply_to, rule_of, state_after, state_by, value_of}
+use Rattle.cove_model.specs.FirstChecks.{AllPassed, FailsFirst, refusal_by}
+use Rattle.cove_model.specs.Refusals.{Check, first_failing}
+use Rattle.cove_model.specs.States.{State}
+
+-- a check of a list fails first, or every one passes
+pub first_or_passed : (checks : List Check) → ((i : ℕ) × ((check : Check) × FailsFirst checks i check)) ⊎ AllPassed checks
+first_or_passed [] = inr tt
+first_or_passed (x ∷ xs) = go x.fails refl (first_or_passed xs)
+  where
+    go : (b : Bool) → x.fails ≡ b → ((i : ℕ) × ((check : Check) × FailsFirst xs i check)) ⊎ AllPassed xs → ((i : ℕ) × ((check : Check) × FailsFirst (x ∷ xs) i check)) ⊎ AllPassed (x ∷ xs)
+    go true e more = inl (0, (x, record { stands = refl; fails = e; earlier = tt }))
+    go false e (inl first) = inl (suc first.0, (first.1.0, record { stands = first.1.1.stands; fails = first.1.1.fails; earlier = (e, first.1.1.earlier) }))
+    go false e (inr passed) = inr (e, passed)
+
+-- where every check passes, none fails
+pub first_not_passed : (checks : List Check) (i : ℕ) (check : Check) → FailsFirst checks i check → AllPassed checks → ⊥
+first_not_passed checks i check first passed = go checks i first.stands passed
+  where
+    go : (checks : List Check) (i : ℕ) → slice_get checks i ≡ Some check → AllPassed checks → ⊥
+    go [] i at passed = none-some _ at
+    go (x ∷ xs) zero at passed = true≢false (sym first.fails ∙ ap (λ c. c.fails) (sym (same_Some x check at)) ∙ passed.0)
+    go (x ∷ xs) (suc i) at passed = go xs i at passed.1
+
+-- one check alone fails first
+pub first_once : (checks : List Check) (i j : ℕ) (check other : Check) → FailsFirst checks i check → FailsFirst checks j other → (i ≡ j) × (check ≡ other)
+first_once checks i j check other first second = go checks i j first.stands first.earlier second.stands second.earlier
+  where
+    go : (checks : List Check) (i j : ℕ) → slice_get checks i ≡ Some check → AllPassed (take i checks) → slice_get checks j ≡ Some other → AllPassed (take j checks) → (i ≡ j) × (check ≡ other)
+    go [] i j at earlier at' earlier' = absurd (none-some _ at)
+    go (x ∷ xs) zero zero at earlier at' earlier' = (refl, sym (same_Some x check at) ∙ same_Some x other at')
+    go (x ∷ xs) zero (suc j) at earlier at' earlier' = absurd (true≢false (sym first.fails ∙ ap (λ c. c.fails) (sym (same_Some x check at)) ∙ earlier'.0))
+    go (x ∷ xs) (suc i) zero at earlier at' earlier' = absurd (true≢false (sym second.fails ∙ ap (λ c. c.fails) (sym (same_Some x other at')) ∙ earlier.0))
+    go (x ∷ xs) (suc i) (suc j) at earlier at' earlier' =
+        let rest = go xs i j at earlier.1 at' earlier'.1 in (ap suc rest.0, rest.1)
+
+-- the first check that fails answers
+first_answers : (checks : List Check) (i : ℕ) (check : Check) → FailsFirst checks i check → first_failing checks ≡ Some (refusal_by check)
+first_answers checks i check first = go checks i first.stands first.earlier
+  where
+    go : (checks : List Check) (i : ℕ) → slice_get checks i ≡ Some check → AllPassed (take i checks) → first_failing checks ≡ Some (refusal_by check)
+    go [] i at earlier = absurd (none-some _ at)
+    go (x ∷ xs) zero at earlier =
+        cond-true x.fails _ (first_failing xs) (ap (λ c. c.fails) (same_Some x check at) ∙ first.fails) ∙ ap (λ c. Some (refusal_by c)) (same_Some x check at)
+    go (x ∷ xs) (suc i) at earlier = cond-false x.fails _ (first_failing xs) earlier.0 ∙ go xs i at earlier.1
+
+-- where every check passes, none answers
+passed_answers : (checks : List Check) → AllPassed checks → first_failing checks ≡ None
+passed_answers [] passed = refl
+passed_answers (x ∷ xs) passed = cond-false x.fails _ (first_failing xs) passed.0 ∙ passed_answers xs passed.1
+
+pub refused_by_first : (S : State) (hart : ℕ) (call : HostCall) (i : ℕ) (check : Check) → FailsFirst ((rule_of call).checks S hart) i check → (reply_to S hart call ≡ refusal_by check) × (state_after S hart call ≡ S)
+refused_by_first S hart call i check first =
+    let e : refusal S hart call ≡ Some (refusal_by check) = first_answers ((rule_of call).checks S hart) i check first in
+    let success : Reply = record { status = Success; value = value_of S hart call } in
+    (ap (λ o. unwrap_or o success) e, ap (λ o. state_by o S (effect S hart call)) e)
+
+pub accepted_by_all : (S : State) (hart : ℕ) (call : HostCall) → AllPassed ((rule_of call).checks S hart) → (reply_to S hart call ≡ record { status = Success; value = (outcome S hart call).value }) × (state_after S hart call ≡ (outcome S hart call).state)
+accepted_by_all S hart call passed =
+    let e : refusal S hart call ≡ None = passed_answers ((rule_of call).checks S hart) passed in
+    let success : Reply = record { status = Success; value = value_of S hart call } in
+    (ap (λ o. unwrap_or o success) e, ap (λ o. state_by o S (effect S hart call)) e)
+
+-- no check answers success
+never_success : (S : State) (hart : ℕ) (call : HostCall) → AllByRecursion (λ check. is_success check.status ≡ false) ((rule_of call).checks S hart)
+never_success S hart (Convert base n) = (refl, (refl, (refl, (refl, (refl, tt)))))
+never_success S hart GlobalFence = (refl, tt)
+never_success S hart LocalFence = tt
+never_success S hart (Reclaim base n) = (refl, (refl, (refl, (refl, tt))))
+never_success S hart _ = (refl, tt)
+
+found_fact : (P : Check → Type 0) (checks : List Check) (i : ℕ) (check : Check) → slice_get checks i ≡ Some check → AllByRecursion P checks → P check
+found_fact P [] i check at all = absurd (none-some _ at)
+found_fact P (x ∷ xs) zero check at all = subst P (same_Some x check at) all.0
+found_fact P (x ∷ xs) (suc i) check at all = found_fact P xs i check at all.1
+
+-- success is answered exactly where every check passes
+pub success_by_all : (S : State) (hart : ℕ) (call : HostCall) → ((reply_to S hart call).status ≡ Success) ↔ AllPassed ((rule_of call).checks S hart)
+success_by_all S hart call = (passes (first_or_passed ((rule_of call).checks S hart)), λ passed. ap (λ r. r.status) (accepted_by_all S hart call passed).0)
+  where
+    passes : ((i : ℕ) × ((check : Check) × FailsFirst ((rule_of call).checks S hart) i check)) ⊎ AllPassed ((rule_of call).checks S hart) → (reply_to S hart call).status ≡ Success → AllPassed ((rule_of call).checks S hart)
+    passes (inr passed) e = passed
+    passes (inl first) e =
+        let check = first.1.0 in
+        let not = found_fact (λ c. is_success c.status ≡ false) ((rule_of call).checks S hart) first.0 check first.1.1.stands (never_success S hart call) in
+        let is : check.status ≡ Success = sym (ap (λ r. r.status) (refused_by_first S hart call first.0 check first.1.1).0) ∙ e in
+        absurd (true≢false (sym (ap is_success is) ∙ not))
