@@ -22,8 +22,8 @@ loop-i-preserved g c =
     let here : word_of c.state.result ≡ get_or (g.W.Words.words c.args.w.now) page 0 =
     c.state.ensures.state ∙ ap (λ words. get_or words page 0) c.loop-i.invariant.words in
     record {
-      words = c.state.ensures.words ∙ c.loop-i.invariant.words;
-      clean = c.state.ensures.clean ∙ c.loop-i.invariant.clean;
-      guard = c.state.ensures.guard ∙ c.loop-i.invariant.guard;
+      words = c.state.ensures.unchanged.words ∙ c.loop-i.invariant.words;
+      clean = c.state.ensures.unchanged.clean ∙ c.loop-i.invariant.clean;
+      guard = c.state.ensures.unchanged.guard ∙ c.loop-i.invariant.guard;
       each = EveryPage-more IsHostWord _ _ _ c.loop-i.invariant.each (subst IsHostWord here (c.is_host.ensures.0 c.if-not-is_host.false));
     }
