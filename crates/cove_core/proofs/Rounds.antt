@@ -91,6 +91,16 @@ module _ (script : ScriptValue) (words now : List ℕ) (old new : Mon) (harts : 
       let mine : play.notes k ≡ note_of held.walked = subst (λ o. IfSome o (λ hart. play.notes k ≡ note_of hart.walked)) at (here.notes k) in
       subst (λ h. turn ENTRY_LIMIT script play h ≢ play) seat.is (turned.moved moves play here.history (ap play.notes seat.is ∙ mine))
 
+  -- all that a turn leaves
+  pub record Taken (stored : List ℕ) (seats : List HartState) : Type 0 where
+    pub seated : AreReady script stored new seats
+    pub goes : GoesOn old new harts seats (λ play. turn ENTRY_LIMIT script play k)
+    pub stays : changed ≡ false → Stays old harts (λ play. turn ENTRY_LIMIT script play k)
+    pub changes : changed ≡ true → Changes old harts (λ play. turn ENTRY_LIMIT script play k)
+
+  pub turn_taken : IsKept script now new → Taken now (set harts k left)
+  turn_taken kept = record { seated = ready_now kept; goes = turn_goes_on; stays = turn_stays; changes = turn_changes }
+
 -- ---- turns one after another
 
 fold_end : {X Y : Type 0} (f : Y → X → Y) (y : Y) (xs : List X) (x : X) → fold f y (xs ++ x ∷ []) ≡ f (fold f y xs) x

@@ -32,7 +32,6 @@ use Rattle.cove_core.specs.Kept.{IsKept}
 use Rattle.cove_core.specs.Made.{IsMade, IsTold, IsWithinReach}
 use Rattle.cove_core.specs.Plays.{IsTurn, IsTurned, note_of}
 use Rattle.cove_core.specs.Reached.{HasWalked, IsPrepared, is_found}
-use Rattle.cove_core.specs.Stepped.{IsBehind}
 use Rattle.cove_core.specs.Walks.{HavePageWords, IsFoundIn, IsWalked}
 use Rattle.cove_core.specs.declared.accesses.Reach.TheVariants as reach
 use Rattle.cove_core.specs.declared.monitors.Mon.{Mon}
@@ -319,10 +318,6 @@ behind_turned script H held fits l here other behind = stays_turned script H hel
         ap (λ o. offer_turn script play (after script play.history) held.hart (offer_of script (after script play.history) o)) next
         ∙ ap (λ o. offer_turn script play (after script play.history) held.hart (unless_behind o l.line)) (ap (λ K. first_behind script (after script K) l.phase) e ∙ behind)
 
--- the history is full
-pub full_turned : (script : ScriptValue) (H : List Entry) (held : HartValue) → Fits script H held → ENTRY_LIMIT ≤ length H → IsTurned script H H held held false
-full_turned script H held fits full = stays_turned script H held fits (λ play e. turn_full ENTRY_LIMIT script play held.hart (subst (λ K. ENTRY_LIMIT ≤ length K) (sym e) full))
-
 -- ---- as the code comes to them
 
 pub none_of : {P : Type 0} (o : Option HartId) → is_some o ≡ false → IfNone o P → P
@@ -332,10 +327,6 @@ none_of (Some h) e p = absurd (false≢true (sym e))
 pub behind_of : (script : ScriptValue) (H : List Entry) (held : HartValue) → Fits script H held → (l : ScriptLine) → next_line script held.hart held.ended ≡ Some l → (o : Option HartId) → is_some o ≡ true → IfSome o (λ hart. first_behind script (after script H) l.phase ≡ Some hart.0) → IsTurned script H H held held false
 behind_of script H held fits l next None e behind = absurd (false≢true e)
 behind_of script H held fits l next (Some h) e behind = behind_turned script H held fits l next h.0 behind
-
--- another hart was behind, as a step tells it
-pub ahead_turned : (script : ScriptValue) (H : List Entry) (held : HartValue) → Fits script H held → (other : ℕ) → IsBehind script H held other → IsTurned script H H held held false
-ahead_turned script H held fits other behind = behind_turned script H held fits behind.line behind.next other behind.first
 
 pub made_at : (script : ScriptValue) → IsTrue (is_within_limits script) → (words now : List ℕ) (mon new : Mon) → IsKept script words mon → (held left : HartValue) → Fits script mon.history held → IsPrepared script held → (ENTRY_LIMIT ≤ length mon.history → ⊥) → (o : Option Entry) → IsSome o → IfSome o (λ entry. IsMade script words now mon new held left entry) → left.walked ≡ None → IsTurned script mon.history new.history held left true
 made_at script within words now mon new kept held left fits prepared unfilled None is made used = absurd (false≢true is)
