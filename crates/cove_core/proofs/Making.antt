@@ -25,6 +25,7 @@ use Rattle.cove_core.specs.Reached.{store_event as stored_event}
 use Rattle.cove_core.specs.Stepped.{IsBehind}
 use Rattle.cove_core.specs.declared.ground.Ground.{Ground}
 use Rattle.cove_core.specs.declared.monitors.Mon.{Mon}
+use Rattle.cove_core.proofs.BoardLemmas.{stands_ready}
 use Rattle.cove_core.proofs.Clearing.{clear_other, clear_own}
 use Rattle.cove_core.proofs.Entering.{countable}
 use Rattle.cove_core.proofs.Events.{IsRightly, call_rightly, load_done, load_rightly, load_told, store_frames, store_rightly, store_stands, store_told}
@@ -89,17 +90,7 @@ module _ (script : ScriptValue) (within : IsTrue (is_within_limits script)) (wor
   pub can_do : length mon.history < ENTRY_LIMIT → (line : Line) → l.line ≡ line → CanDo script.pages script.harts words mon.ground.memory held line
   can_do room (lines.Call call) is =
       let fences = kept.epoch in
-      record {
-        page_limit = limits.few_pages;
-        some_hart = omega (arith, limits.some_harts);
-        hart_limit = limits.few_harts;
-        on_board = fits.on_board;
-        size = kept.stands.stands.size;
-        page_words = λ p below. page_words room p below;
-        within = kept.stands.within;
-        room = omega arith;
-        frame_count = frame_count;
-      }
+      stands_ready script.pages script.harts held.hart words mon.ground.memory (after script mon.history) limits.few_pages limits.few_harts fits.on_board (omega arith) kept.stands kept.frames
   can_do room (lines.Load addr) is = reachable room (page_of addr) (ap accessed_page is)
   can_do room (lines.Store addr value) is = reachable room (page_of addr) (ap accessed_page is)
 

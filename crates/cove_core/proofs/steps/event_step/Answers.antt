@@ -55,15 +55,12 @@ perform-event-requires-clause-can g c =
     let mon = c.args.mon.now in
     let held = hart_value c.args.hart.now in
     let kept = c.requires.kept in
-    let fits = c.requires.fits in
-    let within = c.line_at.ensures.within in
     let l = c.in-Some.line in
     let at : slice_get script.lines held.place ≡ Some l = sym c.line_at.ensures.line ∙ c.in-Some.is in
-    let next = next_at script mon.history held fits l at in
     let size = c.len-place.ensures.number in
     let room : length mon.history < ENTRY_LIMIT = omega (arith, c.if-place.false) in
     can_on script.pages mon.ground.pages script.harts mon.ground.harts kept.board.pages kept.board.harts words mon.ground.memory held l.line
-    (can_do script within words mon kept held fits l at next room l.line refl)
+    (can_do script c.line_at.ensures.within words mon kept held c.requires.fits l at (next_at script mon.history held c.requires.fits l at) room l.line refl)
 
 pub perform-event-requires-clause-allowed : goal.perform-event-requires-clause-allowed
 perform-event-requires-clause-allowed g c =
