@@ -16,3 +16,4 @@ pub mod Statuses
 pub mod Stores
 pub mod TableWords
 pub mod Text
+pub mod Unchanged

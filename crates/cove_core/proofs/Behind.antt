@@ -1,12 +1,7 @@
--- The first hart that is behind, by the places of the harts' next lines.
-use Rattle.std.proofs.Common.{◌≡◌, ℕ, zero, suc, ◌+◌, ◌<◌, ◌≤◌, Bool, true, false, cond, find, List, Some, None, inl, inr, get_or, slice_get, refl, sym, subst, ap, ◌∙◌, arith}
+-- The first number of a run that passes a test.
+use Rattle.std.proofs.Common.{◌≡◌, ℕ, zero, suc, ◌+◌, ◌<◌, ◌≤◌, Bool, true, false, cond, find, Some, None, inl, inr, refl, sym, subst, ap, ◌∙◌, arith}
 use Rattle.std.proofs.lemmas.Bool.{cases_lt}
 use Rattle.std.specs.List.{range_with_len}
-use Rattle.cove_base.proofs.HartPlaceLemmas.{line_at_place}
-use Rattle.cove_base.specs.Scripts.{ScriptValue}
-use Rattle.cove_core.specs.Kept.{ProgressStands}
-use Rattle.cove_model.specs.Offers.{is_behind, is_earlier}
-use Rattle.cove_model.specs.States.{State, ended_by}
 
 -- the first of a run of numbers that passes
 pub find_first : (p : ℕ → Bool) (a n k : ℕ) → a ≤ k → k < a + n → p k ≡ true → ((j : ℕ) → j < k → p j ≡ false) → find p (range_with_len a n) ≡ Some k
@@ -26,8 +21,3 @@ find_none p a zero fails = refl
 find_none p a (suc n) fails =
     ap (λ b. cond b (Some a) (find p (range_with_len (a + 1) n))) (fails a (omega arith) (omega arith))
     ∙ find_none p (a + 1) n (λ k low high. fails k (omega arith) (omega arith))
-
--- the line at a hart's place says whether it is behind
-pub behind_by_place : (script : ScriptValue) (S : State) (places : List ℕ) (phase k : ℕ) → ProgressStands script S places → k < script.harts → is_earlier phase (slice_get script.lines (get_or places k 0)) ≡ is_behind script S phase k
-behind_by_place script S places phase k progress below =
-    ap (is_earlier phase) (line_at_place script k (ended_by S k) (get_or places k 0) (progress.each k below))

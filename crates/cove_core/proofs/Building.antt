@@ -1,5 +1,5 @@
 -- What was taken for a run is fresh.
-use Rattle.std.proofs.Common.{◌≡◌, ℕ, ◌<◌, List, [], Option, None, IfSome, inl, inr, replicate, slice_get, subst, sym, ap, arith}
+use Rattle.std.proofs.Common.{◌≡◌, ℕ, ◌<◌, List, [], Option, None, IfSome, inl, inr, replicate, slice_get, subst, sym, ap, arith, refl}
 use Rattle.std.proofs.lemmas.Bool.{cases_lt}
 use Rattle.std.proofs.lemmas.Option.{IfSome_then, slice_get_past}
 use Rattle.cove_base.specs.HartValues.{HartValue}
@@ -35,7 +35,7 @@ pub built_fresh :
     (script : ScriptValue) (ground : Ground) (history : List Entry) (places words : List ℕ) (harts : List HartState)
     → IsBoard script ground → FramesStand ground.memory (opening script) → history ≡ [] → AtFirstLines script script.harts places
     → words ≡ replicate (all_words script.pages script.harts) 0 → AreNew script script.harts harts
-    → IsFresh script (record { mon = record { ground = ground; history = history; progress = places }; words = words; harts = harts })
+    → IsFresh script (record { mon = record { ground = ground; history = history; progress = places }; words = words; harts = harts; rounds_made = 0 })
 built_fresh script ground history places words harts board frames unplayed first zeros new =
     let kept = opening_kept script ground places board frames (opening_progress script places first.0 first.1) in
     record {
@@ -47,4 +47,5 @@ built_fresh script ground history places words harts board frames unplayed first
       };
       unplayed = unplayed;
       unwalked = new_unwalked script harts new;
+      unbegun = refl;
     }

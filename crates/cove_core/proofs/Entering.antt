@@ -1,8 +1,7 @@
 -- An entry that was made and counted leaves the history kept, and its hart fitting.
-use Rattle.std.proofs.Common.{◌≡◌, ℕ, ◌+◌, ◌<◌, ◌≤◌, ◌≢◌, List, [], ◌∷◌, ◌++◌, None, IsSome, get_or, set, length, inl, inr, refl, sym, subst, ap, ◌∙◌, arith, get_or-set_other, get_or-set_same, length-set}
+use Rattle.std.proofs.Common.{◌≡◌, ℕ, ◌+◌, ◌<◌, ◌≤◌, ◌≢◌, List, [], ◌∷◌, ◌++◌, None, get_or, set, length, inl, inr, refl, sym, subst, ap, ◌∙◌, arith, get_or-set_other, get_or-set_same, length-set}
 use Rattle.std.proofs.lemmas.Bool.{cases_eq}
 use Rattle.std.proofs.lemmas.List.{length_push}
-use Rattle.cove_base.specs.HartLines.{next_line}
 use Rattle.cove_base.specs.HartPlaces.{IsNextPlace}
 use Rattle.cove_base.specs.HartValues.{HartValue}
 use Rattle.cove_base.specs.Places.{count_word, epoch_word, all_words}
@@ -13,7 +12,7 @@ use Rattle.cove_core.specs.Kept.{IsKept, ProgressStands}
 use Rattle.cove_core.specs.Made.{IsPerformed}
 use Rattle.cove_core.specs.declared.monitors.Mon.{Mon}
 use Rattle.cove_model.proofs.AtTheEnd.{after_push, each_push, ended_other, ended_own, from_end, legal_push, tlb_same}
-use Rattle.cove_model.proofs.Beginning.{asked_line, due, replicate_zero}
+use Rattle.cove_model.proofs.Beginning.{replicate_zero}
 use Rattle.cove_model.proofs.BesideProofs.{count_leaves_words}
 use Rattle.cove_model.proofs.Soundness.{board_of}
 use Rattle.cove_model.specs.Cached.{IsReached}
@@ -22,7 +21,7 @@ use Rattle.cove_model.specs.Histories.{after}
 use Rattle.cove_model.specs.LawfulCounts.{IsCountable}
 use Rattle.cove_model.specs.Played.{entry_by}
 use Rattle.cove_model.specs.States.{State, ended_by}
-use Rattle.cove_model.specs.Steps.{after_event, asked, done, end_line}
+use Rattle.cove_model.specs.Steps.{after_event, done, end_line}
 use Rattle.cove_model.specs.Tlbs.{Tlb, renewed, tlb}
 use Rattle.cove_model.specs.WordLaws.{Stand}
 use Rattle.cove_model.specs.WordsStand.{FramesStand, epoch_in}
@@ -160,13 +159,6 @@ module _ (script : ScriptValue) (words : List ℕ) (mon : Mon) (held : HartValue
   pub fits_after : (left : HartValue) → left.hart ≡ held.hart → left.ended ≡ held.ended + 1 → IsNextPlace script held.hart left.ended left.place → left.walked ≡ None → left.hosts ≡ held.hosts → Fits script (mon.history ++ entry_by held.hart event ∷ []) left
   fits_after left same ended place none ring =
       fits_own script mon.history held.hart event left same performed.on_board (ended ∙ ap (λ n. n + 1) performed.counts) place none (ring ∙ performed.ring)
-
-  -- the hart has a line left
-  pub line_left : IsSome (next_line script held.hart held.ended)
-  line_left =
-      let line = asked_line script (after script mon.history) held.hart (asked event) performed.allowed.0 in
-      let is = due script (after script mon.history) held.hart line.0 line.2 in
-      subst IsSome (sym (ap (next_line script held.hart) performed.counts ∙ is.found)) refl
 
   -- it has not ended more lines than there are entries
   pub ended_few : held.ended ≤ length mon.history

@@ -27,6 +27,12 @@ fence_denies xs k some is =
     let test : nat_lt 0 (length xs) ≡ true = lt-ltb 0 (length xs) some in
     rw (test, is)
 
+abbrev fence_words : (first harts : ℕ) → FenceWords
+fence_words first harts = record { first = first; harts = harts }
+
+abbrev board_places : (pages harts : ℕ) → FenceWords
+board_places pages harts = fence_words (epoch_word pages) harts
+
 module _ (pages harts hart : ℕ) (words : List ℕ) (frames : List (List ℕ)) (ready : IsReady pages harts hart words frames) (places : FenceWords) (first_is : places.first ≡ epoch_word pages) (harts_is : places.harts ≡ harts) where
   long : length words ≡ all_words pages harts
   long = ready.size
@@ -34,26 +40,37 @@ module _ (pages harts hart : ℕ) (words : List ℕ) (frames : List (List ℕ)) 
   on : hart < harts
   on = ready.on_board
 
+  -- the places of the board's fence words
+  places_are : places ≡ board_places pages harts
+  places_are =
+      ap (λ first. fence_words first places.harts) first_is ∙ ap (λ n. fence_words (epoch_word pages) n) harts_is
+
   all_answer : HaveAnswered places words places.harts → AllAnswer pages harts words
-  all_answer h =
-      subst (λ f. (k : ℕ) → k < harts → get_or words f 0 ≤ get_or words (f + 1 + k) 0) first_is
-      (subst (λ m. (k : ℕ) → k < m → get_or words places.first 0 ≤ get_or words (places.first + 1 + k) 0) harts_is h)
+  all_answer = subst (λ p. HaveAnswered p words p.harts) places_are
 
   lowest : (k : ℕ) → IsBehind places words k → HaveAnswered places words k → IsLowestBehind pages harts words k
   lowest k behind below =
-      subst (λ f. (k < harts) × (get_or words (f + 1 + k) 0 < get_or words f 0) × ((j : ℕ) → j < k → get_or words f 0 ≤ get_or words (f + 1 + j) 0)) first_is
-      (subst (λ m. k < m) harts_is behind.0, behind.1, below)
+      let is = subst (λ p. IsBehind p words k) places_are behind in
+      (is.0, is.1, subst (λ p. HaveAnswered p words k) places_are below)
 
   pub is_floor : (floor : ℕ) → ((k : ℕ) → k < places.harts → floor ≤ answered places words k) → (k : ℕ) × (k < places.harts) × (floor ≡ answered places words k) → IsFloor pages harts words floor
   is_floor floor least one =
-      subst (λ f. ((k : ℕ) → k < harts → floor ≤ get_or words (f + 1 + k) 0) × ((k : ℕ) × (k < harts) × (floor ≡ get_or words (f + 1 + k) 0))) first_is
-      (subst (λ m. ((k : ℕ) → k < m → floor ≤ get_or words (places.first + 1 + k) 0) × ((k : ℕ) × (k < m) × (floor ≡ get_or words (places.first + 1 + k) 0))) harts_is (least, one))
+      subst (λ p. ((k : ℕ) → k < p.harts → floor ≤ answered p words k) × ((k : ℕ) × (k < p.harts) × (floor ≡ answered p words k))) places_are (least, one)
 
   begin_is : begin_stores places words hart ≡ global_fence_stores pages words hart
-  begin_is = ap (λ f. (f, get_or words f 0 + 1) ∷ (f + 1 + hart, get_or words f 0 + 1) ∷ []) first_is
+  begin_is = ap (λ p. begin_stores p words hart) places_are
 
   answer_is : answer_stores places words hart ≡ local_fence_stores pages words hart
-  answer_is = ap (λ f. (f + 1 + hart, get_or words f 0) ∷ []) first_is
+  answer_is = ap (λ p. answer_stores p words hart) places_are
+
+  -- an answer of the hart leaves the epoch and the count
+  answer_beside : (ws : List ℕ) (number : ℕ) → (epoch_in pages (set ws (answered_word pages hart) number) ≡ epoch_in pages ws) × (get_or (set ws (answered_word pages hart) number) (count_word pages harts) 0 ≡ get_or ws (count_word pages harts) 0)
+  answer_beside ws number =
+      let apart : epoch_word pages ≢ answered_word pages hart = omega arith in
+      let count_apart : count_word pages harts ≢ answered_word pages hart = omega arith in (
+        get_or-set_other ws (answered_word pages hart) (epoch_word pages) number 0 apart,
+        get_or-set_other ws (answered_word pages hart) (count_word pages harts) number 0 count_apart,
+      )
 
   pub global_fence_denied : (k : ℕ) → IsBehind places words k → HaveAnswered places words k → Called pages harts hart GlobalFence words words frames frames (record { status = AlreadyStarted; value = k })
   global_fence_denied k behind below =
@@ -66,17 +83,16 @@ module _ (pages harts hart : ℕ) (words : List ℕ) (frames : List (List ℕ)) 
       let answers = all_answer all in
       let next = epoch_in pages words + 1 in
       let once : List ℕ = set words (epoch_word pages) next in
-      let apart : epoch_word pages ≢ answered_word pages hart = omega arith in
-      let count_one : count_word pages harts ≢ epoch_word pages = omega arith in
-      let count_two : count_word pages harts ≢ answered_word pages hart = omega arith in
+      let count_apart : count_word pages harts ≢ epoch_word pages = omega arith in
       let in_words : epoch_word pages < length words = omega arith in
+      let beside = answer_beside once next in
       let epoch : epoch_in pages (stored words (global_fence_stores pages words hart)) ≡ epoch_in pages words + 1 =
-      get_or-set_other once (answered_word pages hart) (epoch_word pages) next 0 apart ∙ get_or-set_same words (epoch_word pages) next 0 in_words in
+      beside.0 ∙ get_or-set_same words (epoch_word pages) next 0 in_words in
       accepts pages harts hart GlobalFence words new frames frames (global_fence_stores pages words hart)
       (stores ∙ ap (stored words) begin_is)
       (global_fence_is_lawful pages harts no_tables words hart on in_words ready.room answers)
       (omega arith)
-      (get_or-set_other once (answered_word pages hart) (count_word pages harts) next 0 count_two ∙ get_or-set_other words (epoch_word pages) (count_word pages harts) next 0 count_one)
+      (beside.1 ∙ get_or-set_other words (epoch_word pages) (count_word pages harts) next 0 count_apart)
       (λ S stand memory. record {
         none = ap (λ xs. first_failing (unanswered_check xs ∷ [])) (words_tell_answered pages harts words S stand.stands.owners answers);
         value = refl;
@@ -86,16 +102,13 @@ module _ (pages harts hart : ℕ) (words : List ℕ) (frames : List (List ℕ)) 
 
   pub local_fence_accepted : (new : List ℕ) → new ≡ stored words (answer_stores places words hart) → Called pages harts hart LocalFence words new frames frames accepted
   local_fence_accepted new stores =
-      let number = epoch_in pages words in
-      let apart : epoch_word pages ≢ answered_word pages hart = omega arith in
-      let count_apart : count_word pages harts ≢ answered_word pages hart = omega arith in
-      let epoch : epoch_in pages (stored words (local_fence_stores pages words hart)) ≡ epoch_in pages words =
-      get_or-set_other words (answered_word pages hart) (epoch_word pages) number 0 apart in
+      let beside = answer_beside words (epoch_in pages words) in
+      let epoch : epoch_in pages (stored words (local_fence_stores pages words hart)) ≡ epoch_in pages words = beside.0 in
       accepts pages harts hart LocalFence words new frames frames (local_fence_stores pages words hart)
       (stores ∙ ap (stored words) answer_is)
       (local_fence_is_lawful pages harts no_tables words hart on)
       (omega arith)
-      (get_or-set_other words (answered_word pages hart) (count_word pages harts) number 0 count_apart)
+      beside.1
       (λ S stand memory. record {
         none = refl;
         value = refl;

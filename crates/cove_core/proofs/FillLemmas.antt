@@ -1,7 +1,7 @@
 -- Frames that show bytes, after a byte and after a fill.
-use Rattle.std.proofs.Common.{◌≡◌, ◌≢◌, ℕ, zero, suc, ◌+◌, ◌-◌, ◌*◌, ◌/◌, ◌%◌, ◌<◌, ◌≤◌, Bool, true, false, nat_le, nat_lt, cond, List, [], ◌∷◌, inl, inr, IsTrue, length, map, fold, take, get_or, set, replicate, refl, sym, ◌∙◌, ap, subst, arith, length-set, get_or-set_other}
+use Rattle.std.proofs.Common.{◌≡◌, ◌≢◌, ℕ, zero, suc, ◌+◌, ◌-◌, ◌*◌, ◌/◌, ◌%◌, ◌<◌, ◌≤◌, Bool, true, false, nat_lt, cond, List, [], ◌∷◌, inl, inr, IsTrue, length, map, fold, take, get_or, set, replicate, refl, sym, ◌∙◌, ap, subst, arith, length-set, get_or-set_other}
 use Rattle.std.specs.Int.{to_le_bytes, from_le_bytes, w64}
-use Rattle.std.proofs.lemmas.Bool.{and_parts, cases_eq, cases_lt, eq-eqb, le-ltb, leb-true, lt-ltb, ne_eqb}
+use Rattle.std.proofs.lemmas.Bool.{and_parts, cases_eq, cases_lt, eq-eqb, le-ltb, lt-ltb, ne_eqb}
 use Rattle.std.proofs.lemmas.Grind.{get_or-set_at, get_or_default_zero}
 use Rattle.std.proofs.lemmas.List.{ext_get_or, get_or-replicate, get_or-take, get_or_past, length-replicate, take_all, take_more}
 use Rattle.std.proofs.lemmas.List.Sums.{fold-append}
@@ -186,10 +186,6 @@ either_way : (b : Bool) (x : ℕ) → cond b x x ≡ x
 either_way true x = refl
 either_way false x = refl
 
-pub part_none : (fill : Fill) (f : ℕ → ℕ) (a : ℕ) → f a ≡ byte_after a (f a) (part fill 0)
-part_none fill f a =
-    sym (ap (λ v. cond (nat_lt a fill.addr) (f a) v) (get_or_past [] (a - fill.addr) (f a) (omega arith)) ∙ either_way (nat_lt a fill.addr) (f a))
-
 pub part_all : (fill : Fill) (f : ℕ → ℕ) (i a : ℕ) → length fill.bytes ≤ i → byte_after a (f a) (part fill i) ≡ byte_after a (f a) fill
 part_all fill f i a past = ap (λ bytes. cond (nat_lt a fill.addr) (f a) (get_or bytes (a - fill.addr) (f a))) (take_all i fill.bytes past)
 
@@ -205,9 +201,6 @@ pub fill_within : (script : ScriptValue) → IsTrue (is_within_limits script) �
 fill_within script within i d below = is_fill_at script.pages script.fills i d (limits_of script within).fills below
 
 -- the bounds of a fill
-pub fill_ends : (pages : ℕ) (fill : Fill) → IsTrue (is_fill pages fill) → fill.addr + length fill.bytes ≤ 4096 * pages
-fill_ends pages fill is = leb-true (fill.addr + length fill.bytes) (4096 * pages) (and_parts (nat_le 1 (length fill.bytes)) (nat_le (fill.addr + length fill.bytes) (4096 * pages)) is).1
-
 pub opening_more : (fills : List Fill) (i : ℕ) (d : Fill) (a : ℕ) → i < length fills → byte_after a (opening_byte (take i fills) a) (get_or fills i d) ≡ opening_byte (take (i + 1) fills) a
 opening_more fills i d a below =
     sym (ap (fold (byte_after a) 0) (take_more fills i d below) ∙ fold-append (byte_after a) 0 (take i fills) (get_or fills i d ∷ []))

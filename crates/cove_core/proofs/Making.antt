@@ -1,5 +1,5 @@
 -- What a hart did, counted as an entry, is what the clauses of a step say.
-use Rattle.std.proofs.Common.{◌≡◌, ℕ, zero, suc, ◌+◌, ◌<◌, ◌≤◌, List, [], ◌∷◌, ◌++◌, None, Some, IfSome, IsSome, IsTrue, get_or, set, length, slice_get, refl, sym, subst, ap, ◌∙◌, arith}
+use Rattle.std.proofs.Common.{◌≡◌, ℕ, zero, suc, ◌+◌, ◌<◌, ◌≤◌, List, [], ◌∷◌, ◌++◌, None, Option, Some, IfSome, IfNone, IsSome, IsTrue, get_or, set, length, slice_get, refl, sym, subst, ap, ◌∙◌, arith}
 use Rattle.std.proofs.lemmas.Option.{none-some, same_Some}
 use Rattle.std.proofs.lemmas.List.{length_push}
 use Rattle.cove_base.proofs.HartPlaceLemmas.{line_at_place}
@@ -25,6 +25,7 @@ use Rattle.cove_core.specs.Reached.{store_event as stored_event}
 use Rattle.cove_core.specs.Stepped.{IsBehind}
 use Rattle.cove_core.specs.declared.ground.Ground.{Ground}
 use Rattle.cove_core.specs.declared.monitors.Mon.{Mon}
+use Rattle.cove_core.proofs.BoardLemmas.{stands_ready}
 use Rattle.cove_core.proofs.Clearing.{clear_other, clear_own}
 use Rattle.cove_core.proofs.Entering.{countable}
 use Rattle.cove_core.proofs.Events.{IsRightly, call_rightly, load_done, load_rightly, load_told, store_frames, store_rightly, store_stands, store_told}
@@ -89,17 +90,7 @@ module _ (script : ScriptValue) (within : IsTrue (is_within_limits script)) (wor
   pub can_do : length mon.history < ENTRY_LIMIT → (line : Line) → l.line ≡ line → CanDo script.pages script.harts words mon.ground.memory held line
   can_do room (lines.Call call) is =
       let fences = kept.epoch in
-      record {
-        page_limit = limits.few_pages;
-        some_hart = omega (arith, limits.some_harts);
-        hart_limit = limits.few_harts;
-        on_board = fits.on_board;
-        size = kept.stands.stands.size;
-        page_words = λ p below. page_words room p below;
-        within = kept.stands.within;
-        room = omega arith;
-        frame_count = frame_count;
-      }
+      stands_ready script.pages script.harts held.hart words mon.ground.memory (after script mon.history) limits.few_pages limits.few_harts fits.on_board (omega arith) kept.stands kept.frames
   can_do room (lines.Load addr) is = reachable room (page_of addr) (ap accessed_page is)
   can_do room (lines.Store addr value) is = reachable room (page_of addr) (ap accessed_page is)
 
@@ -241,6 +232,22 @@ done_on pages pages' harts harts' p h old new before now held hosts event line d
 pub allows_on : (allows : List ℕ → ℕ → ℕ → Type 0) (pages pages' harts harts' hart : ℕ) → pages' ≡ pages → harts' ≡ harts → (old : List ℕ) → AllowsLawful allows pages harts no_tables hart old → AllowsLawful allows pages' harts' no_tables hart old
 allows_on allows pages pages' harts harts' hart p h old all = λ words place word lawful.
     all words place word (subst (λ n. IsLawful pages n no_tables hart old words place word) h (subst (λ n. IsLawful n harts' no_tables hart old words place word) p lawful))
+
+-- what no hart is behind, as the code finds it
+pub none_behind : (script : ScriptValue) (H : List Entry) (l : ScriptLine) (found : Option HartId) → found ≡ None → IfNone found (first_behind script (after script H) l.phase ≡ None) → first_behind script (after script H) l.phase ≡ None
+none_behind script H l found is none = subst (λ r. IfNone r (first_behind script (after script H) l.phase ≡ None)) is none
+
+-- an event of a hart, from what it was prepared for to what it did
+pub record Performing (script : ScriptValue) (words : List ℕ) (mon : Mon) (held : HartValue) (line : Line) (now : List ℕ) (ground : Ground) (hosts : List (ℕ × Page)) (event : Event) : Type 0 where
+  pub parts : Parts script words mon held line now ground.memory hosts event
+  pub performed : IsPerformed script now (record { ground = ground; history = mon.history; progress = mon.progress }) (record held { hosts = hosts }) event
+
+pub performing : (script : ScriptValue) → IsTrue (is_within_limits script) → (words : List ℕ) (mon : Mon) → IsKept script words mon → (held : HartValue) → Fits script mon.history held → IsPrepared script held → (l : ScriptLine) → slice_get script.lines held.place ≡ Some l → first_behind script (after script mon.history) l.phase ≡ None → (now : List ℕ) (ground : Ground) (hosts : List (ℕ × Page)) (event : Event) → (ground.pages ≡ mon.ground.pages) × (ground.harts ≡ mon.ground.harts) → IsDone mon.ground.pages mon.ground.harts words now mon.ground.memory ground.memory held hosts event l.line → Performing script words mon held l.line now ground hosts event
+performing script within words mon kept held fits prepared l at none now ground hosts event board done =
+    let next = next_at script mon.history held fits l at in
+    let did = parts script within words mon kept held fits l at next (ready_at script held prepared l next) l.line refl now ground.memory hosts event
+    (done_on script.pages mon.ground.pages script.harts mon.ground.harts kept.board.pages kept.board.harts words now mon.ground.memory ground.memory held hosts event l.line done) in
+    record { parts = did; performed = performed script within words mon kept held fits l at next none now ground hosts event board did }
 
 -- ---- the entry at the end of a history
 

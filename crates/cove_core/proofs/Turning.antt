@@ -1,6 +1,7 @@
 -- What a hart does in its turn is the turn of each play that has its history and its note.
 use Rattle.std.proofs.Common.{◌≡◌, ℕ, ◌<◌, ◌≤◌, Bool, true, false, cond, ◌||◌, ◌⊎◌, nat_lt, is_some, IsTrue, IsSome, IfSome, IfNone, arith, List, [], ◌∷◌, ◌++◌, Option, None, Some, inl, inr, ◌↔◌, length, get_or, slice_get, refl, sym, subst, ap, ◌∙◌}
 use Rattle.std.proofs.lemmas.Bool.{cases_lt, false≢true, ltb-true}
+use Rattle.std.proofs.lemmas.List.{length_push}
 use Rattle.std.proofs.lemmas.Option.{same_Some}
 use Rattle.cove_base.proofs.HartPlaceLemmas.{line_at_place}
 use Rattle.cove_base.proofs.ScriptLimits.{limits_of, line_page, Limits}
@@ -31,7 +32,6 @@ use Rattle.cove_core.specs.Kept.{IsKept}
 use Rattle.cove_core.specs.Made.{IsMade, IsTold, IsWithinReach}
 use Rattle.cove_core.specs.Plays.{IsTurn, IsTurned, note_of}
 use Rattle.cove_core.specs.Reached.{HasWalked, IsPrepared, is_found}
-use Rattle.cove_core.specs.Stepped.{IsBehind}
 use Rattle.cove_core.specs.Walks.{HavePageWords, IsFoundIn, IsWalked}
 use Rattle.cove_core.specs.declared.accesses.Reach.TheVariants as reach
 use Rattle.cove_core.specs.declared.monitors.Mon.{Mon}
@@ -186,8 +186,13 @@ made_turned script within words now mon new kept held left fits prepared room en
   same_hart = made.same_hart;
   fits = made.fits;
   others = made.others;
-  takes = λ play e mine. at_history script mon.history new.history held.hart left.walked play e (taken play.notes mine);
+  takes = takes;
   still = λ no. absurd (false≢true (sym no));
+  moved = λ moves play e mine same.
+      let longer : new.history ≡ mon.history = sym (takes play e mine).history_is ∙ ap (λ (p : Play). p.history) same ∙ e in
+      let size = ap length (sym made.grown ∙ longer) in
+      let one_more = length_push mon.history entry in
+      absurd (omega arith);
 }
   where
     entry_of_hart : ℕ → Entry
@@ -207,6 +212,9 @@ made_turned script within words now mon new kept held left fits prepared room en
         let same : mon.history ++ entry_by held.hart entry.event ∷ [] ≡ new.history = ap (λ k. mon.history ++ entry_of_hart k ∷ []) (sym made.by) ∙ sym made.grown in
         turn_by script (record { history = mon.history; notes = notes }) held.hart new.history Unwalked left.walked
         (is ∙ ap (λ K. as_play K (noted held.hart Unwalked notes)) same) (sym (ap note_of used))
+
+    takes : (play : Play) → play.history ≡ mon.history → play.notes held.hart ≡ note_of held.walked → IsTurn script play held.hart new.history left.walked
+    takes play e mine = at_history script mon.history new.history held.hart left.walked play e (taken play.notes mine)
 
 -- ---- a walk is a turn
 
@@ -233,10 +241,18 @@ walk_turned script within words mon kept held left fits phase is_walked l next r
   same_hart = ap (λ (v : HartValue). v.hart) is_walked.left_is;
   fits = is_walked.fits mon kept fits;
   others = λ other ne f. f;
-  takes = λ play e mine. at_history script mon.history mon.history held.hart left.walked play e (taken play.notes mine);
+  takes = takes;
   still = λ no. absurd (false≢true (sym no));
+  moved = λ moves play e mine same.
+      let none = unwalked_now script mon.history held is_walked.page.0 fits (wanted script held phase is_walked.page is_walked.needed) in
+      walk_is_noted (is_found is_walked.walked)
+      (ap (λ (v : HartValue). note_of v.walked) (sym is_walked.left_is) ∙ sym (takes play e mine).own ∙ ap (λ (p : Play). p.notes held.hart) same ∙ mine ∙ ap note_of none);
 }
   where
+    walk_is_noted : (b : Bool) → cond b Found Missing ≡ Unwalked → ⊥
+    walk_is_noted true e = cc
+    walk_is_noted false e = cc
+
     taken : (notes : ℕ → Note) → notes held.hart ≡ note_of held.walked → IsTurn script (record { history = mon.history; notes = notes }) held.hart mon.history left.walked
     taken notes mine =
         let p = is_walked.page.0 in
@@ -255,6 +271,9 @@ walk_turned script within words mon kept held left fits phase is_walked l next r
         turn_by script play held.hart mon.history (cond (is_host (page_at S.pages p)) Found Missing) left.walked is
         (ap (λ b. cond b Found Missing) tells ∙ sym (ap (λ (v : HartValue). note_of v.walked) is_walked.left_is))
 
+    takes : (play : Play) → play.history ≡ mon.history → play.notes held.hart ≡ note_of held.walked → IsTurn script play held.hart mon.history left.walked
+    takes play e mine = at_history script mon.history mon.history held.hart left.walked play e (taken play.notes mine)
+
 -- ---- a turn that changes nothing
 
 still_turn : (script : ScriptValue) (play : Play) (h : ℕ) → (length play.history < ENTRY_LIMIT → offer_turn script play (after script play.history) h (offer script (after script play.history) h) ≡ play) → turn ENTRY_LIMIT script play h ≡ play
@@ -263,8 +282,8 @@ still_turn script play h stays = elim (cases_lt (length play.history) ENTRY_LIMI
   | inr full ↦ turn_full ENTRY_LIMIT script play h full
 ]
 
-stays_turned : (script : ScriptValue) (H : List Entry) (held : HartValue) → Fits script H held → ((play : Play) → play.history ≡ H → turn ENTRY_LIMIT script play held.hart ≡ play) → (changed : Bool) → IsTurned script H H held held changed
-stays_turned script H held fits stays changed = record {
+stays_turned : (script : ScriptValue) (H : List Entry) (held : HartValue) → Fits script H held → ((play : Play) → play.history ≡ H → turn ENTRY_LIMIT script play held.hart ≡ play) → IsTurned script H H held held false
+stays_turned script H held fits stays = record {
   same_hart = refl;
   fits = fits;
   others = λ other ne f. f;
@@ -274,11 +293,12 @@ stays_turned script H held fits stays changed = record {
     others = λ other ne. ap (λ (p : Play). p.notes other) (stays play e);
   };
   still = λ no. stays;
+  moved = λ moves. absurd (false≢true moves);
 }
 
 -- no line is left
 pub over_turned : (script : ScriptValue) (H : List Entry) (held : HartValue) → Fits script H held → slice_get script.lines held.place ≡ None → IsTurned script H H held held false
-over_turned script H held fits none = stays_turned script H held fits (λ play e. still_turn script play held.hart (λ room. stays play e)) false
+over_turned script H held fits none = stays_turned script H held fits (λ play e. still_turn script play held.hart (λ room. stays play e))
   where
     stays : (play : Play) → play.history ≡ H → offer_turn script play (after script play.history) held.hart (offer script (after script play.history) held.hart) ≡ play
     stays play e =
@@ -289,7 +309,7 @@ over_turned script H held fits none = stays_turned script H held fits (λ play e
 
 -- another hart is behind
 pub behind_turned : (script : ScriptValue) (H : List Entry) (held : HartValue) → Fits script H held → (l : ScriptLine) → next_line script held.hart held.ended ≡ Some l → (other : ℕ) → first_behind script (after script H) l.phase ≡ Some other → IsTurned script H H held held false
-behind_turned script H held fits l here other behind = stays_turned script H held fits (λ play e. still_turn script play held.hart (λ room. stays play e)) false
+behind_turned script H held fits l here other behind = stays_turned script H held fits (λ play e. still_turn script play held.hart (λ room. stays play e))
   where
     stays : (play : Play) → play.history ≡ H → offer_turn script play (after script play.history) held.hart (offer script (after script play.history) held.hart) ≡ play
     stays play e =
@@ -297,10 +317,6 @@ behind_turned script H held fits l here other behind = stays_turned script H hel
         ap (λ K. next_line script held.hart (ended_by (after script K) held.hart)) e ∙ ap (next_line script held.hart) (sym fits.counts) ∙ here in
         ap (λ o. offer_turn script play (after script play.history) held.hart (offer_of script (after script play.history) o)) next
         ∙ ap (λ o. offer_turn script play (after script play.history) held.hart (unless_behind o l.line)) (ap (λ K. first_behind script (after script K) l.phase) e ∙ behind)
-
--- the history is full
-pub full_turned : (script : ScriptValue) (H : List Entry) (held : HartValue) → Fits script H held → ENTRY_LIMIT ≤ length H → IsTurned script H H held held false
-full_turned script H held fits full = stays_turned script H held fits (λ play e. turn_full ENTRY_LIMIT script play held.hart (subst (λ K. ENTRY_LIMIT ≤ length K) (sym e) full)) false
 
 -- ---- as the code comes to them
 
@@ -311,10 +327,6 @@ none_of (Some h) e p = absurd (false≢true (sym e))
 pub behind_of : (script : ScriptValue) (H : List Entry) (held : HartValue) → Fits script H held → (l : ScriptLine) → next_line script held.hart held.ended ≡ Some l → (o : Option HartId) → is_some o ≡ true → IfSome o (λ hart. first_behind script (after script H) l.phase ≡ Some hart.0) → IsTurned script H H held held false
 behind_of script H held fits l next None e behind = absurd (false≢true e)
 behind_of script H held fits l next (Some h) e behind = behind_turned script H held fits l next h.0 behind
-
--- another hart was behind, as a step tells it
-pub ahead_turned : (script : ScriptValue) (H : List Entry) (held : HartValue) → Fits script H held → (other : ℕ) → IsBehind script H held other → IsTurned script H H held held false
-ahead_turned script H held fits other behind = behind_turned script H held fits behind.line behind.next other behind.first
 
 pub made_at : (script : ScriptValue) → IsTrue (is_within_limits script) → (words now : List ℕ) (mon new : Mon) → IsKept script words mon → (held left : HartValue) → Fits script mon.history held → IsPrepared script held → (ENTRY_LIMIT ≤ length mon.history → ⊥) → (o : Option Entry) → IsSome o → IfSome o (λ entry. IsMade script words now mon new held left entry) → left.walked ≡ None → IsTurned script mon.history new.history held left true
 made_at script within words now mon new kept held left fits prepared unfilled None is made used = absurd (false≢true is)

@@ -9,3 +9,4 @@ pub mod Walks
 pub mod Seats
 pub mod Plays
 pub mod KeptRule
+pub mod Zeros

@@ -1,6 +1,5 @@
 -- What an entry that a hart makes leaves.
-use Rattle.std.specs.Prelude.{◌≡◌, ◌≢◌, ℕ, ◌+◌, ◌<◌, ◌≤◌, Bool, true, List, [], ◌∷◌, ◌++◌, ◌⊎◌, IsSome, None, Option, length, slice_index, slice_set}
-use Rattle.cove_base.specs.Guards.{Guard, guard_after}
+use Rattle.std.specs.Prelude.{◌≡◌, ◌≢◌, ℕ, ◌+◌, ◌<◌, ◌≤◌, List, [], ◌∷◌, ◌++◌, ◌⊎◌, IsSome, None, length, slice_index, slice_set}
 use Rattle.cove_base.specs.HartPlaces.{IsNextPlace}
 use Rattle.cove_base.specs.HartValues.{HartValue}
 use Rattle.cove_base.specs.PageWords.{IsHostWord}
@@ -91,9 +90,3 @@ pub record IsMade (script : ScriptValue) (before now : List ℕ) (old new : Mon)
   pub clear : IsClear script old.history entry left
   pub others_clear : (other : HartValue) → other.hart ≢ held.hart → Fits script old.history other → IsClear script old.history entry other
   pub stores : StoresAndCounts script old.history held.hart entry before now
-
--- what stands beside the words after the entry at a place was counted
-pub record IsCounted (history : List Entry) (place : ℕ) (guard_before guard_now : Option Guard) (now : List ℕ) (clean : Bool) (entry : Entry) : Type 0 where
-  pub place_is : place ≡ length history
-  pub guard : guard_now ≡ guard_after guard_before now entry
-  pub clean_is : clean ≡ true

@@ -1,5 +1,5 @@
 -- How the monitor and its harts play a script by turns.
-use Rattle.std.specs.Prelude.{◌≡◌, ◌≢◌, ℕ, ◌<◌, Bool, false, if◌then◌else◌, List, [], Option, Some, None, IfSome, length, slice_get}
+use Rattle.std.specs.Prelude.{◌≡◌, ◌≢◌, ℕ, ◌+◌, ◌<◌, Bool, false, true, fold, if◌then◌else◌, List, [], Option, Some, None, IfSome, length, slice_get}
 use Rattle.cove_base.specs.HartValues.{HartValue}
 use Rattle.cove_base.specs.Scripts.{ScriptValue}
 use Rattle.cove_base.specs.declared.events.Entry.{Entry}
@@ -12,7 +12,7 @@ use Rattle.cove_core.specs.declared.plays.Built.{Built}
 use Rattle.cove_hart.specs.HartStates.{hart_value}
 use Rattle.cove_hart.specs.declared.states.HartState.{HartState}
 use Rattle.cove_model.specs.Fits.{Fits}
-use Rattle.cove_model.specs.Played.{Found, Missing, Note, Play, Unwalked, turn}
+use Rattle.cove_model.specs.Played.{Found, Missing, Note, Play, Unwalked, round, rounds, turn, unplayed}
 
 -- what a hart knows of its unused walk
 abbrev pub note_of : Option Noted → Note
@@ -25,14 +25,15 @@ pub record IsTurn (script : ScriptValue) (play : Play) (hart : ℕ) (history : L
   pub own : (turn ENTRY_LIMIT script play hart).notes hart ≡ note_of walked
   pub others : (other : ℕ) → other ≢ hart → (turn ENTRY_LIMIT script play hart).notes other ≡ play.notes other
 
--- A hart took its turn, which is that of each play of the same history where the hart has the same note. If it
--- changed nothing, neither does the turn.
+-- A hart took its turn, which is that of each play of the same history where the hart has the same note. It changed
+-- nothing exactly where the turn leads to the same play.
 pub record IsTurned (script : ScriptValue) (old new : List Entry) (held left : HartValue) (changed : Bool) : Type 0 where
   pub same_hart : left.hart ≡ held.hart
   pub fits : Fits script new left
   pub others : (other : HartValue) → other.hart ≢ held.hart → Fits script old other → Fits script new other
   pub takes : (play : Play) → play.history ≡ old → play.notes held.hart ≡ note_of held.walked → IsTurn script play held.hart new left.walked
   pub still : changed ≡ false → (play : Play) → play.history ≡ old → turn ENTRY_LIMIT script play held.hart ≡ play
+  pub moved : changed ≡ true → (play : Play) → play.history ≡ old → play.notes held.hart ≡ note_of held.walked → turn ENTRY_LIMIT script play held.hart ≢ play
 
 -- a hart of this number fits the history
 pub record IsSeated (script : ScriptValue) (history : List Entry) (number : ℕ) (hart : HartState) : Type 0 where
@@ -58,8 +59,24 @@ GoesOn old new before now leads = (play : Play) → IsAt old before play → IsA
 abbrev pub Stays : Mon → List HartState → (Play → Play) → Type 0
 Stays mon harts leads = (play : Play) → IsAt mon harts play → leads play ≡ play
 
+-- it leads each play that they are at to another one: its history or a note differs
+abbrev pub Changes : Mon → List HartState → (Play → Play) → Type 0
+Changes mon harts leads = (play : Play) → IsAt mon harts play → leads play ≢ play
+
+-- the play after the turns that the script names
+abbrev pub named_play : ScriptValue → Play
+named_play script = fold (turn ENTRY_LIMIT script) unplayed script.turns
+
+-- so many rounds are made of a play: each but the last changes it, and the last one changes nothing
+pub record AreRounds (script : ScriptValue) (play : Play) (made : ℕ) : Type 0 where
+  pub before : ℕ
+  pub count : made ≡ before + 1
+  pub changing : (n : ℕ) → n < before → round ENTRY_LIMIT script (rounds ENTRY_LIMIT script n play) ≢ rounds ENTRY_LIMIT script n play
+  pub still : round ENTRY_LIMIT script (rounds ENTRY_LIMIT script before play) ≡ rounds ENTRY_LIMIT script before play
+
 -- A monitor and its harts before any turn.
 pub record IsFresh (script : ScriptValue) (built : Built) : Type 0 where
   pub ready : AreReady script built.words built.mon built.harts
   pub unplayed : built.mon.history ≡ []
   pub unwalked : (k : ℕ) → IfSome (slice_get built.harts k) (λ hart. hart.walked ≡ None)
+  pub unbegun : built.rounds_made ≡ 0

@@ -7,7 +7,7 @@ use Rattle.cove_base.specs.Places.{page_word}
 use Rattle.cove_base.specs.Rings.{filled, found}
 use Rattle.cove_base.specs.Scripts.{ScriptValue}
 use Rattle.cove_base.specs.declared.calls.HostCall.{HostCall}
-use Rattle.cove_base.specs.declared.calls.HostCall.TheVariants.{Convert, GlobalFence, LocalFence, Reclaim, Create, Region, Tables, Measured, Vcpu, Finalize, Zero, Shared, Run, Invalidate, TvmFence, Validate, Remove, Destroy, Kick, Info, Bind, Unbind, Unbound, Inject}
+use Rattle.cove_base.specs.declared.calls.HostCall.TheVariants.{GlobalFence, LocalFence}
 use Rattle.cove_base.specs.declared.events.Event.{Event}
 use Rattle.cove_base.specs.declared.events.Event.TheVariants as events
 use Rattle.cove_base.specs.declared.events.How.TheVariants.{Hit, Walk}
@@ -79,28 +79,7 @@ frames_by reach.Absent before store_event = before
 abbrev pub empties : HostCall → (accepted : Bool) → Bool
 empties GlobalFence accepted = accepted
 empties LocalFence accepted = true
-empties (Convert base n) accepted = false
-empties (Reclaim base n) accepted = false
-empties (Create root state) accepted = false
-empties (Region t gpa len) accepted = false
-empties (Tables t base n) accepted = false
-empties (Measured t src dst n gpa) accepted = false
-empties (Vcpu t v state) accepted = false
-empties (Finalize t pc arg) accepted = false
-empties (Zero t base n gpa) accepted = false
-empties (Shared t base n gpa) accepted = false
-empties (Run t v fuel) accepted = false
-empties (Invalidate t gpa n) accepted = false
-empties (TvmFence t) accepted = false
-empties (Validate t gpa n) accepted = false
-empties (Remove t gpa n) accepted = false
-empties (Destroy t) accepted = false
-empties (Kick hart) accepted = false
-empties Info accepted = false
-empties (Bind t v hart file) accepted = false
-empties (Unbind t v) accepted = false
-empties (Unbound t v) accepted = false
-empties (Inject t v id) accepted = false
+empties _ accepted = false
 
 -- the ring of a hart after its call was answered
 abbrev pub ring_after : HostCall → (accepted : Bool) → List (ℕ × Page) → List (ℕ × Page)

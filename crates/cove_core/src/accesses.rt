@@ -3,6 +3,7 @@
 ghost use Rattle.std.specs.Prelude.{◌≡◌, ◌<◌, ◌↔◌, ◌^◌, IsTrue, None, false, length, slice_index};
 ghost use Rattle.cove_base.specs.PageWords.{IsHostWord, IsPageWord};
 ghost use Rattle.cove_base.specs.Rings.{found};
+ghost use Rattle.cove_base.specs.Unchanged.{Unchanged};
 ghost use Rattle.cove_core.specs.Called.{IsReady, no_tables};
 ghost use Rattle.cove_core.specs.Reached.{CanDo, HasWalked, IsAnswered, IsDone, IsLoaded, IsReachable, IsStored, ComesTo, empties, frames_by, load_event, store_event};
 ghost use Rattle.cove_hart.specs.HartStates.{hart_value};
@@ -53,9 +54,7 @@ pub fn load<W: Words>(w: &mut W, memory: &Memory, hart: &mut HartState, addr: u6
     requires { IsReachable (W.words w.old) memory.now (hart_value hart.old) (page_of addr) }
     ensures loaded { IsLoaded (W.words w.old) memory.now (hart_value hart.old) addr hart.new.hosts result }
     ensures hart { hart.new ≡ record hart.old { hosts = hart.new.hosts } }
-    ensures words { W.words w.new ≡ W.words w.old }
-    ensures clean { W.clean w.new ≡ W.clean w.old }
-    ensures guard { W.guard w.new ≡ W.guard w.old }
+    ensures unchanged { Unchanged W.words W.clean W.guard w.old w.new }
 {
     let page = Page((addr / 4096) as u32);
     let reach = look_at(w, hart, page);
@@ -74,9 +73,7 @@ pub fn store<W: Words>(
     requires { IsReachable (W.words w.old) memory.old (hart_value hart.old) (page_of addr) }
     ensures stored { IsStored (W.words w.old) memory.old memory.new (hart_value hart.old) addr value hart.new.hosts result }
     ensures hart { hart.new ≡ record hart.old { hosts = hart.new.hosts } }
-    ensures words { W.words w.new ≡ W.words w.old }
-    ensures clean { W.clean w.new ≡ W.clean w.old }
-    ensures guard { W.guard w.new ≡ W.guard w.old }
+    ensures unchanged { Unchanged W.words W.clean W.guard w.old w.new }
 {
     let page = Page((addr / 4096) as u32);
     let reach = look_at(w, hart, page);
@@ -109,9 +106,7 @@ fn look_at<W: Words>(w: &mut W, hart: &mut HartState, page: Page) -> Reach
     requires absent { HasWalked hart.old.walked false → found page.0 hart.old.hosts ≡ None }
     ensures reaches { ComesTo (W.words w.old) (hart_value hart.old) page.0 hart.new.hosts result }
     ensures hart { hart.new ≡ record hart.old { hosts = hart.new.hosts } }
-    ensures words { W.words w.new ≡ W.words w.old }
-    ensures clean { W.clean w.new ≡ W.clean w.old }
-    ensures guard { W.guard w.new ≡ W.guard w.old }
+    ensures unchanged { Unchanged W.words W.clean W.guard w.old w.new }
 {
     let Some(noted) = hart.walked else {
         return Reach::Held;
@@ -132,9 +127,7 @@ pub fn is_host<W: Words>(w: &mut W, page: Page) -> bool
     requires limit { page.0 < 2 ^ 16 }
     requires word { IsPageWord (slice_index (W.words w.old) page.0) }
     ensures host { IsTrue result ↔ IsHostWord (slice_index (W.words w.old) page.0) }
-    ensures words { W.words w.new ≡ W.words w.old }
-    ensures clean { W.clean w.new ≡ W.clean w.old }
-    ensures guard { W.guard w.new ≡ W.guard w.old }
+    ensures unchanged { Unchanged W.words W.clean W.guard w.old w.new }
 {
     match state(w, page) {
         PageState::Host { .. } => true,

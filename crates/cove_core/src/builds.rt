@@ -36,5 +36,6 @@ pub fn build(alloc: Global, script: &Script) -> Result<Built, NoMemory>
         },
         words,
         harts,
+        rounds_made: 0,
     })
 }

@@ -1,9 +1,12 @@
 //! The host's calls on owners of pages, and the dispatcher of every call.
 
 ghost use Rattle.std.specs.Prelude.{◌≡◌, ◌+◌, ◌≤◌, length};
-ghost use Rattle.cove_base.specs.Places.{epoch_word};
+ghost use Rattle.cove_base.specs.PageWords.{host};
+ghost use Rattle.cove_base.specs.Places.{epoch_word, page_word};
+ghost use Rattle.cove_base.specs.Stores.{AllAllowed, fills, stored};
 ghost use Rattle.cove_core.specs.Called.{Called, IsReady, no_tables};
 ghost use Rattle.cove_core.specs.Replies.{accepted, refused_with, status_of};
+ghost use Rattle.cove_core.specs.Zeros.{AreZeros};
 ghost use Rattle.cove_model.specs.LawfulStores.{AllowsLawful};
 ghost use Rattle.cove_model.specs.WordLaws.{zeroed};
 
@@ -124,7 +127,7 @@ pub fn reclaim_pages<W: Words>(w: &mut W, g: &mut Ground, h: HartId, base: u64, 
         return refused(Status::InvalidAddress);
     }
     zero_all(g, range);
-    set_all(w, range, PageState::Host { maps: 0 });
+    give_back(w, g, range);
     success()
 }
 
@@ -144,11 +147,26 @@ fn zero_all(g: &mut Ground, range: PageRange)
     requires pages { range.first.0 + range.count ≤ length g.old.memory }
     requires limit { range.first.0 + range.count ≤ PAGE_LIMIT }
     ensures memory { g.new.memory ≡ zeroed g.old.memory range.first.0 range.count }
+    ensures zeros { AreZeros g.new.memory range.first.0 range.count }
     ensures board { (g.new.pages ≡ g.old.pages) × (g.new.harts ≡ g.old.harts) }
 {
     for i in 0..range.count {
         g.memory.zero(Page(range.first.0 + i));
     }
+}
+
+// Gives the pages of a range back to the host. Their frames are zeros before any of their words says so.
+fn give_back<W: Words>(w: &mut W, g: &Ground, range: PageRange)
+    requires zeros { AreZeros g.now.memory range.first.0 range.count }
+    requires places { range.first.0 + range.count ≤ length (W.words w.old) }
+    requires limit { range.first.0 + range.count ≤ PAGE_LIMIT }
+    requires allowed { AllAllowed (W.allows (W.guard w.old)) (W.words w.old)
+        (fills (page_word range.first.0) range.count (host 0)) }
+    ensures words { W.words w.new
+        ≡ stored (W.words w.old) (fills (page_word range.first.0) range.count (host 0)) }
+    ensures guard { W.guard w.new ≡ W.guard w.old }
+{
+    set_all(w, range, PageState::Host { maps: 0 });
 }
 
 fn success() -> Reply

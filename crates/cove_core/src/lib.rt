@@ -25,7 +25,6 @@ mod walks;
 
 pub use builds::build;
 pub use calls::{call, convert_pages, global_fence, local_fence, reclaim_pages};
-pub use fills::opening_memory;
 pub use ground::Ground;
 pub use monitors::{Mon, Progress};
 pub use plays::{Built, play};

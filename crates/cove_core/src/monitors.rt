@@ -78,10 +78,12 @@ pub fn line_at(script: &Script, place: usize) -> Option<ScriptLine>
 }
 
 impl Mon {
+    ghost use Rattle.cove_base.specs.HartLines.{next_line};
     ghost use Rattle.cove_core.specs.Kept.{ProgressStands};
     ghost use Rattle.cove_model.specs.Histories.{after};
     ghost use Rattle.cove_model.specs.Offers.{first_behind};
     ghost use Rattle.cove_model.specs.Played.{IsOver};
+    ghost use Rattle.cove_model.specs.States.{ended_by};
     ghost use Rattle.std.specs.Prelude.{◌↔◌};
 
     /// The first hart that has a line of an earlier phase than this one left.
@@ -91,7 +93,7 @@ impl Mon {
         ensures none { IfNone result (first_behind script.now (after script.now self.now.history) phase ≡ None) }
     {
         for k in 0..script.harts {
-            if is_earlier(line_at(script, self.progress.place(HartId(k))), phase) {
+            if is_earlier(self.next_line(script, HartId(k)), phase) {
                 return Some(HartId(k));
             }
         }
@@ -104,11 +106,20 @@ impl Mon {
         ensures { IsTrue result ↔ IsOver script.now self.now.history }
     {
         for k in 0..script.harts {
-            if line_at(script, self.progress.place(HartId(k))).is_some() {
+            if self.next_line(script, HartId(k)).is_some() {
                 return false;
             }
         }
         true
+    }
+
+    // The next line of a hart of the board.
+    fn next_line(&self, script: &Script, hart: HartId) -> Option<ScriptLine>
+        requires progress { ProgressStands script.now (after script.now self.now.history) self.now.progress }
+        requires on_board { hart.0 < script.now.harts }
+        ensures { result ≡ next_line script.now hart.0 (ended_by (after script.now self.now.history) hart.0) }
+    {
+        line_at(script, self.progress.place(hart))
     }
 }
 

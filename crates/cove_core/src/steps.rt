@@ -4,6 +4,7 @@ ghost use Rattle.std.specs.Prelude.{ℕ, ◌≡◌, ◌↔◌, ◌+◌, ◌<◌,
 ghost use Rattle.cove_base.specs.Guards.{guard_after};
 ghost use Rattle.cove_base.specs.Places.{count_word};
 ghost use Rattle.cove_base.specs.Scripts.{is_within_limits};
+ghost use Rattle.cove_base.specs.Unchanged.{Unchanged};
 ghost use Rattle.cove_core.specs.Kept.{IsKept};
 ghost use Rattle.cove_core.specs.Made.{IsMade, IsPerformed};
 ghost use Rattle.cove_core.specs.Called.{no_tables};
@@ -56,8 +57,7 @@ pub fn event_step<W: Words>(
         ↔ ((length mon.old.history < ENTRY_LIMIT) × IsBehind script.now mon.old.history (hart_value hart.old) other) }
     ensures due { OnDid result (λ _. IsFirst script.now mon.old.history (hart_value hart.old)) }
     ensures still { IsStill result
-        ((W.words w.new ≡ W.words w.old) × (W.guard w.new ≡ W.guard w.old) × (W.clean w.new ≡ W.clean w.old)
-        × (mon.new ≡ mon.old) × (hart.new ≡ hart.old)) }
+        (Unchanged W.words W.clean W.guard w.old w.new × (mon.new ≡ mon.old) × (hart.new ≡ hart.old)) }
 {
     let place = mon.history.len();
     if place >= ENTRY_LIMIT as usize {

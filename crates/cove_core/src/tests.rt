@@ -1,4 +1,4 @@
-ghost use Rattle.std.specs.Prelude.{◌≡◌, ◌+◌, ◌<◌, ◌≤◌};
+ghost use Rattle.std.specs.Prelude.{◌≡◌, ◌+◌, ◌<◌, ◌≤◌, IfOk};
 ghost use Rattle.cove_base.specs.declared.limits.TheConstants.{ENTRY_LIMIT};
 ghost use Rattle.cove_model.specs.States.{State};
 ghost use Rattle.cove_model.specs.WordLaws.{Stand};
@@ -7,9 +7,8 @@ ghost use Rattle.cove_model.specs.WordsStand.{FramesStand, epoch_in};
 use crate::{Ground, build, call, play};
 use cove_base::{
     Bytes, Fills, HartId, HostCall, Line, Lines, NoMemory, Plain, Reply, Script, ScriptLine,
-    Status, Turns, all_words,
+    Status, Turns,
 };
-use cove_mem::Memory;
 use std::alloc::Global;
 use std::test::Fail;
 
@@ -42,12 +41,8 @@ fn answer(w: &mut Plain, g: &mut Ground, second: bool, c: HostCall) -> Reply
 #[test]
 fn calls_of_two_harts_are_answered_in_turn(rt: HostRuntime) -> Result<(), Fail> {
     let alloc = rt.alloc();
-    let mut words = Plain::new(alloc, all_words(16, 2))?;
-    let mut ground = Ground {
-        memory: Memory::new(alloc, 16)?,
-        pages: 16,
-        harts: 2,
-    };
+    let script = script(alloc)?;
+    let mut built = build(alloc, &script)?;
     let table: [(bool, HostCall, Status, u64); 15] = [
         (false, convert(0x4001, 1), Status::InvalidAddress, 0),
         (false, convert(0x4000, 0), Status::InvalidParam, 0),
@@ -66,14 +61,16 @@ fn calls_of_two_harts_are_answered_in_turn(rt: HostRuntime) -> Result<(), Fail> 
         (false, HostCall::Info, Status::NotSupported, 0),
     ];
     for (second, c, status, value) in table {
-        let reply = answer(&mut words, &mut ground, second, c);
+        let reply = answer(&mut built.words, &mut built.mon.ground, second, c);
         assert_eq!(rt; (reply.status.code(), reply.value), (status.code(), value));
     }
     Ok(())
 }
 
 // Hart 1 fences in the first phase, and hart 0 stores and loads in the second.
-fn script(alloc: Global) -> Result<Script, NoMemory> {
+fn script(alloc: Global) -> Result<Script, NoMemory>
+    ensures { IfOk result (λ script. (script.pages ≡ 16) × (script.harts ≡ 2)) }
+{
     let mut key = Bytes::new(alloc);
     key.push(0)?;
     let mut lines = Lines::new(alloc);

@@ -3,6 +3,7 @@
 ghost use Rattle.std.specs.Prelude.{◌≡◌, ◌<◌, ◌^◌, length, slice_index};
 ghost use Rattle.cove_base.specs.PageWords.{IsPageWord};
 ghost use Rattle.cove_base.specs.HartPlaces.{IsNextPlace};
+ghost use Rattle.cove_base.specs.Unchanged.{Unchanged};
 ghost use Rattle.cove_core.specs.Walks.{HavePageWords, IsFoundIn, IsWalked};
 ghost use Rattle.cove_hart.specs.HartStates.{hart_value};
 ghost use Rattle.cove_hart.specs.Needs.{next_need};
@@ -20,9 +21,7 @@ fn walk<W: Words>(w: &mut W, page: Page) -> Walked
     requires limit { page.0 < 2 ^ 16 }
     requires word { IsPageWord (slice_index (W.words w.old) page.0) }
     ensures walked { IsFoundIn (W.words w.old) page.0 result }
-    ensures words { W.words w.new ≡ W.words w.old }
-    ensures clean { W.clean w.new ≡ W.clean w.old }
-    ensures guard { W.guard w.new ≡ W.guard w.old }
+    ensures unchanged { Unchanged W.words W.clean W.guard w.old w.new }
 {
     let word = w.get(page_word(page));
     match decode(word) {
@@ -39,9 +38,7 @@ pub fn walk_step<W: Words>(w: &mut W, script: &Script, hart: &mut HartState, pha
     requires needed { (target : Target) × (next_need script.now (hart_value hart.old) phase ≡ Walk target) }
     requires words { HavePageWords script.now.pages (W.words w.old) }
     ensures walked { IsWalked script.now (W.words w.old) phase (hart_value hart.old) (hart_value hart.new) }
-    ensures words { W.words w.new ≡ W.words w.old }
-    ensures clean { W.clean w.new ≡ W.clean w.old }
-    ensures guard { W.guard w.new ≡ W.guard w.old }
+    ensures unchanged { Unchanged W.words W.clean W.guard w.old w.new }
 {
     within_limits(script);
     match hart.next(script, phase) {

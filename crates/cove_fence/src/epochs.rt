@@ -1,5 +1,6 @@
 ghost use Rattle.std.specs.Prelude.{◌≡◌, ◌+◌, ◌<◌, ◌≤◌, OnOk, OnErr, IfOk, IfErr, IfSome, IfNone, ℕ, ◌^◌, length};
 ghost use Rattle.cove_base.specs.Stores.{stored, AllAllowed};
+ghost use Rattle.cove_base.specs.Unchanged.{Unchanged};
 ghost use Rattle.cove_fence.specs.Fences.{epoch, answered, answered_place, IsBehind, HaveAnswered, begin_stores, answer_stores};
 
 use cove_base::{ENTRY_LIMIT, HART_LIMIT, HartId, Words};
@@ -84,9 +85,7 @@ impl Epochs {
         requires { self.now.first + self.now.harts < length (W.words w.old) }
         ensures least { (k : ℕ) → k < self.now.harts → result ≤ answered self.now (W.words w.old) k }
         ensures answered { (k : ℕ) × (k < self.now.harts) × (result ≡ answered self.now (W.words w.old) k) }
-        ensures words { W.words w.new ≡ W.words w.old }
-        ensures clean { W.clean w.new ≡ W.clean w.old }
-        ensures guard { W.guard w.new ≡ W.guard w.old }
+        ensures unchanged { Unchanged W.words W.clean W.guard w.old w.new }
     {
         let harts = self.harts;
         let mut least = w.get(self.place(HartId(0)));
@@ -100,9 +99,7 @@ impl Epochs {
     pub fn current<W: Words>(&self, w: &mut W) -> u64
         requires { self.now.first < length (W.words w.old) }
         ensures value { result ≡ epoch self.now (W.words w.old) }
-        ensures words { W.words w.new ≡ W.words w.old }
-        ensures clean { W.clean w.new ≡ W.clean w.old }
-        ensures guard { W.guard w.new ≡ W.guard w.old }
+        ensures unchanged { Unchanged W.words W.clean W.guard w.old w.new }
     {
         w.get(self.first)
     }
@@ -119,9 +116,7 @@ impl Epochs {
         ensures behind { IfSome result (λ k. IsBehind self.now (W.words w.old) k.0) }
         ensures lowest { IfSome result (λ k. HaveAnswered self.now (W.words w.old) k.0) }
         ensures answered { IfNone result (HaveAnswered self.now (W.words w.old) self.now.harts) }
-        ensures words { W.words w.new ≡ W.words w.old }
-        ensures clean { W.clean w.new ≡ W.clean w.old }
-        ensures guard { W.guard w.new ≡ W.guard w.old }
+        ensures unchanged { Unchanged W.words W.clean W.guard w.old w.new }
     {
         let epoch = w.get(self.first);
         for k in 0..self.harts {

@@ -7,7 +7,6 @@
 mod needs;
 mod states;
 
-pub use cove_base::{Noted, Target};
 pub use needs::Need;
 pub use states::{HartState, next_place};
 

@@ -1,6 +1,7 @@
-use crate::{HartState, Need, Noted, Target};
+use crate::{HartState, Need};
 use cove_base::{
-    Bytes, Fills, HartId, HostCall, Line, Lines, NoMemory, Page, Script, ScriptLine, Turns, Walked,
+    Bytes, Fills, HartId, HostCall, Line, Lines, NoMemory, Noted, Page, Script, ScriptLine, Target,
+    Turns, Walked,
 };
 use std::alloc::Global;
 use std::test::Fail;

@@ -100,7 +100,7 @@ weight_le Missing = omega arith
 unfoldable pub work : ScriptValue → Play → ℕ
 work script play = 2 * length play.history + sum_below (λ k. weight (play.notes k)) script.harts
 
-notes_le : (notes : ℕ → Note) (n : ℕ) → sum_below (λ k. weight (notes k)) n ≤ n
+pub notes_le : (notes : ℕ → Note) (n : ℕ) → sum_below (λ k. weight (notes k)) n ≤ n
 unfolding sum_below
 notes_le notes zero = omega arith
 notes_le notes (suc n) =
@@ -267,11 +267,11 @@ turn_size limit script play h le = cond_both (nat_lt (length play.history) limit
     offer_size (Behind k) lt = le
     offer_size (Next line) lt = line_size line lt
 
-turns_size : (limit : ℕ) (script : ScriptValue) (hs : List ℕ) (play : Play) → length play.history ≤ limit → length (fold (turn limit script) play hs).history ≤ limit
+pub turns_size : (limit : ℕ) (script : ScriptValue) (hs : List ℕ) (play : Play) → length play.history ≤ limit → length (fold (turn limit script) play hs).history ≤ limit
 turns_size limit script [] play le = le
 turns_size limit script (h ∷ hs) play le = turns_size limit script hs (turn limit script play h) (turn_size limit script play h le)
 
-rounds_size : (limit : ℕ) (script : ScriptValue) (n : ℕ) (play : Play) → length play.history ≤ limit → length (rounds limit script n play).history ≤ limit
+pub rounds_size : (limit : ℕ) (script : ScriptValue) (n : ℕ) (play : Play) → length play.history ≤ limit → length (rounds limit script n play).history ≤ limit
 rounds_size limit script zero play le = le
 rounds_size limit script (suc n) play le = rounds_size limit script n (round limit script play) (turns_size limit script (harts_below script.harts) play le)
 

@@ -2,6 +2,7 @@ ghost use Rattle.std.specs.Prelude.{◌≡◌, ◌+◌, ◌<◌, ◌≤◌, ◌^
 ghost use Rattle.cove_base.specs.PageWords.{IsPageWord, IsHostWord, IsMappedWord, IsFreeWord};
 ghost use Rattle.cove_base.specs.Places.{page_word};
 ghost use Rattle.cove_base.specs.Stores.{stored, AllAllowed, fills};
+ghost use Rattle.cove_base.specs.Unchanged.{Unchanged};
 ghost use Rattle.cove_owner.specs.States.{word_of, IsWithin, EveryPage, SomePage};
 
 use crate::states::{PageState, decode, encode};
@@ -14,9 +15,7 @@ pub fn state<W: Words>(w: &mut W, page: Page) -> PageState
     requires word { IsPageWord (slice_index (W.words w.old) page.0) }
     ensures state { word_of result ≡ slice_index (W.words w.old) page.0 }
     ensures within { IsWithin result }
-    ensures words { W.words w.new ≡ W.words w.old }
-    ensures clean { W.clean w.new ≡ W.clean w.old }
-    ensures guard { W.guard w.new ≡ W.guard w.old }
+    ensures unchanged { Unchanged W.words W.clean W.guard w.old w.new }
 {
     decode(w.get(page_word(page)))
 }
@@ -58,9 +57,7 @@ pub fn all_host<W: Words>(w: &mut W, range: PageRange) -> bool
     requires page_words { EveryPage IsPageWord (W.words w.old) range.first.0 range.count }
     ensures all { IsTrue result
         ↔ EveryPage IsHostWord (W.words w.old) range.first.0 range.count }
-    ensures words { W.words w.new ≡ W.words w.old }
-    ensures clean { W.clean w.new ≡ W.clean w.old }
-    ensures guard { W.guard w.new ≡ W.guard w.old }
+    ensures unchanged { Unchanged W.words W.clean W.guard w.old w.new }
 {
     for i in 0..range.count {
         if !is_host(state(w, Page(range.first.0 + i))) {
@@ -77,9 +74,7 @@ pub fn any_mapped<W: Words>(w: &mut W, range: PageRange) -> bool
     requires page_words { EveryPage IsPageWord (W.words w.old) range.first.0 range.count }
     ensures any { IsTrue result
         ↔ SomePage IsMappedWord (W.words w.old) range.first.0 range.count }
-    ensures words { W.words w.new ≡ W.words w.old }
-    ensures clean { W.clean w.new ≡ W.clean w.old }
-    ensures guard { W.guard w.new ≡ W.guard w.old }
+    ensures unchanged { Unchanged W.words W.clean W.guard w.old w.new }
 {
     for i in 0..range.count {
         if is_mapped(state(w, Page(range.first.0 + i))) {
@@ -96,9 +91,7 @@ pub fn all_free<W: Words>(w: &mut W, range: PageRange, floor: u64) -> bool
     requires page_words { EveryPage IsPageWord (W.words w.old) range.first.0 range.count }
     ensures all { IsTrue result
         ↔ EveryPage (IsFreeWord floor) (W.words w.old) range.first.0 range.count }
-    ensures words { W.words w.new ≡ W.words w.old }
-    ensures clean { W.clean w.new ≡ W.clean w.old }
-    ensures guard { W.guard w.new ≡ W.guard w.old }
+    ensures unchanged { Unchanged W.words W.clean W.guard w.old w.new }
 {
     for i in 0..range.count {
         if !is_free(state(w, Page(range.first.0 + i)), floor) {

@@ -1,5 +1,6 @@
-use Rattle.std.proofs.Common.{◌≡◌, ℕ, suc, ◌+◌, ◌-◌, ◌<◌, List, length, set, refl, sym, ◌∙◌, ap, arith, length-set}
+use Rattle.std.proofs.Common.{◌≡◌, ℕ, suc, ◌+◌, ◌-◌, ◌<◌, List, [], get_or, length, set, refl, sym, ◌∙◌, ap, arith, length-set}
 use Rattle.cove_mem.specs.Frames.{zeros as frame_of_zeros}
+use Rattle.cove_model.proofs.FrameProofs.{zeroed_inside}
 use Rattle.cove_model.specs.Owners.{zeros}
 use Rattle.cove_model.specs.WordLaws.{zeroed}
 use Rattle.cove_core.proofs.calls.zero_all.Goals as goal
@@ -30,3 +31,13 @@ loop-i-preserved c =
       pages = c.loop-i.invariant.pages;
       harts = c.loop-i.invariant.harts;
     }
+
+pub returns-clause-zeros : goal.returns-clause-zeros
+returns-clause-zeros c page low high =
+    let first = c.args.range.first.0 in
+    let count = c.args.range.count in
+    let old : List (List ℕ) = c.args.g.now.memory in
+    let none : count - c.loop-i.i ≡ 0 = omega (arith, c.loop-i-test.false) in
+    let all : c.loop-i.g.memory ≡ zeroed old first count =
+    sym (ap (λ k. zeroed c.loop-i.g.memory (first + c.loop-i.i) k) none) ∙ c.loop-i.invariant.leads in
+    ap (λ fs. get_or fs page []) all ∙ zeroed_inside old first count page low high (omega (arith, c.requires.pages))

@@ -1,12 +1,15 @@
 use Rattle.std.proofs.Common.{◌≡◌, false, fold}
 use Rattle.cove_base.specs.declared.limits.TheConstants.{ENTRY_LIMIT}
 use Rattle.cove_core.specs.Plays.{AreReady, GoesOn, Stays}
+use Rattle.cove_core.proofs.Rounds.{IsWork}
 use Rattle.cove_model.specs.Played.{turn}
 use Rattle.cove_model.specs.States.{harts_below}
 use Rattle.cove_core.proofs.plays.one_round.Given as goal
 
 abbrev pub invariant-loop-k : goal.invariant-loop-k
-invariant-loop-k l =
-    AreReady l.fn.script l.words l.mon l.harts
-    × GoesOn l.fn.mon l.mon l.fn.harts l.harts (λ play. fold (turn ENTRY_LIMIT l.fn.script) play (harts_below l.k))
-    × (l.changed ≡ false → Stays l.fn.mon l.fn.harts (λ play. fold (turn ENTRY_LIMIT l.fn.script) play (harts_below l.k)))
+invariant-loop-k l = record {
+  ready : AreReady l.fn.script l.words l.mon l.harts;
+  goes : GoesOn l.fn.mon l.mon l.fn.harts l.harts (λ play. fold (turn ENTRY_LIMIT l.fn.script) play (harts_below l.k));
+  stays : l.changed ≡ false → Stays l.fn.mon l.fn.harts (λ play. fold (turn ENTRY_LIMIT l.fn.script) play (harts_below l.k));
+  work : IsWork l.fn.script l.fn.mon l.fn.harts l.changed (harts_below l.k);
+}

@@ -1,5 +1,5 @@
-use Rattle.std.proofs.Common.{◌≡◌, Some, slice_get, sym, ◌∙◌, arith}
-use Rattle.cove_base.proofs.HartPlaceLemmas.{line_at_place}
+use Rattle.std.proofs.Common.{slice_get, sym, ◌∙◌, arith}
+use Rattle.cove_core.proofs.Making.{next_at}
 use Rattle.cove_core.proofs.Turning.{behind_of, idle_never, kept_words, made_at, none_of, over_turned, walk_turned}
 use Rattle.cove_core.proofs.Walking.{prepared_for}
 use Rattle.cove_hart.specs.HartStates.{hart_value}
@@ -13,8 +13,7 @@ pub returns-then-is_some-clause-turned : goal.returns-then-is_some-clause-turned
 returns-then-is_some-clause-turned c =
     let script = c.args.script.now in
     let held = hart_value c.args.hart.now in
-    let at : slice_get script.lines held.place ≡ Some c.in-Some.line = sym c.line_at.ensures.line ∙ c.in-Some.is in
-    let next = sym (line_at_place script held.hart held.ended held.place c.requires.fits.stands) ∙ at in
+    let next = next_at script c.args.mon.now.history held c.requires.fits c.in-Some.line (sym c.line_at.ensures.line ∙ c.in-Some.is) in
     behind_of script c.args.mon.now.history held c.requires.fits c.in-Some.line next c.first_behind.result (sym c.is_some.ensures ∙ c.if-is_some.true) c.first_behind.ensures.some
 
 pub walk_step-requires-clause-words : goal.walk_step-requires-clause-words
@@ -34,8 +33,7 @@ pub returns-else-is_some-clause-turned : goal.returns-else-is_some-clause-turned
 returns-else-is_some-clause-turned c =
     let script = c.args.script.now in
     let held = hart_value c.args.hart.now in
-    let at : slice_get script.lines held.place ≡ Some c.in-Some.line = sym c.line_at.ensures.line ∙ c.in-Some.is in
-    let next = sym (line_at_place script held.hart held.ended held.place c.requires.fits.stands) ∙ at in
+    let next = next_at script c.args.mon.now.history held c.requires.fits c.in-Some.line (sym c.line_at.ensures.line ∙ c.in-Some.is) in
     walk_turned script c.line_at.ensures.within c.args.words.now c.args.mon.now c.requires.kept held (hart_value c.walk_step.new.hart) c.requires.fits c.in-Some.line.phase c.walk_step.ensures.walked c.in-Some.line next
     (omega (arith, c.if-len.false)) (none_of c.first_behind.result (sym c.is_some.ensures ∙ c.if-is_some.false) c.first_behind.ensures.none)
 
@@ -43,6 +41,5 @@ pub returns-in-Idle-clause-turned : goal.returns-in-Idle-clause-turned
 returns-in-Idle-clause-turned c =
     let script = c.args.script.now in
     let held = hart_value c.args.hart.now in
-    let at : slice_get script.lines held.place ≡ Some c.in-Some.line = sym c.line_at.ensures.line ∙ c.in-Some.is in
-    let next = sym (line_at_place script held.hart held.ended held.place c.requires.fits.stands) ∙ at in
+    let next = next_at script c.args.mon.now.history held c.requires.fits c.in-Some.line (sym c.line_at.ensures.line ∙ c.in-Some.is) in
     absurd (idle_never script held c.in-Some.line next (sym c.next.ensures ∙ c.in-Idle.is))

@@ -1,14 +1,12 @@
 use Rattle.std.proofs.lemmas.Option.{none-some, same_Some}
-use Rattle.std.proofs.Common.{ℕ, ◌≡◌, ◌<◌, ◌∷◌, ◌++◌, [], Some, None, IfNone, length, slice_get, refl, sym, subst, ap, ◌∙◌, arith}
+use Rattle.std.proofs.Common.{ℕ, ◌≡◌, ◌<◌, ◌∷◌, ◌++◌, [], Some, length, slice_get, refl, sym, subst, ap, ◌∙◌, arith}
 use Rattle.cove_base.specs.Guards.{guard_after}
 use Rattle.cove_base.specs.declared.events.Entry.{Entry}
 use Rattle.cove_base.specs.declared.limits.TheConstants.{ENTRY_LIMIT}
-use Rattle.cove_core.proofs.Making.{allows_on, behind_at, can_do, can_on, done_on, entry_from, has_next, last_entry, made, next_at, parts, performed, ready_at, some_last}
+use Rattle.cove_core.proofs.Making.{allows_on, behind_at, can_do, can_on, entry_from, has_next, last_entry, made, next_at, none_behind, performing, some_last}
 use Rattle.cove_core.specs.Made.{IsMade, IsPerformed}
 use Rattle.cove_hart.specs.HartStates.{hart_value}
 use Rattle.cove_hart.specs.declared.states.HartState.{HartState}
-use Rattle.cove_model.specs.Histories.{after}
-use Rattle.cove_model.specs.Offers.{first_behind}
 use Rattle.cove_core.proofs.steps.event_step.Goals as goal
 
 pub unreachable-requires : goal.unreachable-requires
@@ -17,46 +15,37 @@ unreachable-requires g c =
 
 pub returns-in-Some-first_behind-clause-ahead : goal.returns-in-Some-first_behind-clause-ahead
 returns-in-Some-first_behind-clause-ahead g c =
-    let script = c.args.script.now in
-    let words = g.W.Words.words c.args.w.now in
-    let mon = c.args.mon.now in
-    let held = hart_value c.args.hart.now in
-    let kept = c.requires.kept in
-    let fits = c.requires.fits in
-    let within = c.line_at.ensures.within in
-    let l = c.in-Some.line in
-    let at : slice_get script.lines held.place ≡ Some l = sym c.line_at.ensures.line ∙ c.in-Some.is in
-    let next = next_at script mon.history held fits l at in
-    record { line = l; next = next; first = c.in-Some-first_behind.ensures.some }
+    let at = sym c.line_at.ensures.line ∙ c.in-Some.is in
+    record {
+      line = c.in-Some.line;
+      next = next_at c.args.script.now c.args.mon.now.history (hart_value c.args.hart.now) c.requires.fits c.in-Some.line at;
+      first = c.in-Some-first_behind.ensures.some;
+    }
 
 pub returns-in-Some-first_behind-clause-behind : goal.returns-in-Some-first_behind-clause-behind
 returns-in-Some-first_behind-clause-behind g c =
     let script = c.args.script.now in
-    let mon = c.args.mon.now in
+    let history = c.args.mon.now.history in
     let held = hart_value c.args.hart.now in
     let l = c.in-Some.line in
-    let at : slice_get script.lines held.place ≡ Some l = sym c.line_at.ensures.line ∙ c.in-Some.is in
-    let next = next_at script mon.history held c.requires.fits l at in
+    let next = next_at script history held c.requires.fits l (sym c.line_at.ensures.line ∙ c.in-Some.is) in
     let size = c.len-place.ensures.number in
-    let room : length mon.history < ENTRY_LIMIT = omega (arith, c.if-place.false) in
+    let room : length history < ENTRY_LIMIT = omega (arith, c.if-place.false) in
     λ other. (
       λ same. (room, record { line = l; next = next; first = c.in-Some-first_behind.ensures.some ∙ ap (λ (k : ℕ). Some k) same }),
-      λ behind. same_Some c.in-Some-first_behind.other.0 other (sym c.in-Some-first_behind.ensures.some ∙ behind_at script mon.history held l other next behind.1),
+      λ behind. same_Some c.in-Some-first_behind.other.0 other (sym c.in-Some-first_behind.ensures.some ∙ behind_at script history held l other next behind.1),
     )
 
 pub returns-clause-behind : goal.returns-clause-behind
 returns-clause-behind g c =
     let script = c.args.script.now in
-    let mon = c.args.mon.now in
+    let history = c.args.mon.now.history in
     let held = hart_value c.args.hart.now in
     let l = c.in-Some.line in
-    let at : slice_get script.lines held.place ≡ Some l = sym c.line_at.ensures.line ∙ c.in-Some.is in
-    let next = next_at script mon.history held c.requires.fits l at in
-    let none : first_behind script (after script mon.history) l.phase ≡ None =
-    subst (λ r. IfNone r (first_behind script (after script mon.history) l.phase ≡ None)) c.in_default-first_behind.is c.first_behind.ensures.none in
+    let next = next_at script history held c.requires.fits l (sym c.line_at.ensures.line ∙ c.in-Some.is) in
     λ other. (
       λ same. absurd same,
-      λ behind. none-some other (sym none ∙ behind_at script mon.history held l other next behind.1),
+      λ behind. none-some other (sym (none_behind script history l c.first_behind.result c.in_default-first_behind.is c.first_behind.ensures.none) ∙ behind_at script history held l other next behind.1),
     )
 
 pub perform-event-requires-clause-can : goal.perform-event-requires-clause-can
@@ -66,15 +55,12 @@ perform-event-requires-clause-can g c =
     let mon = c.args.mon.now in
     let held = hart_value c.args.hart.now in
     let kept = c.requires.kept in
-    let fits = c.requires.fits in
-    let within = c.line_at.ensures.within in
     let l = c.in-Some.line in
     let at : slice_get script.lines held.place ≡ Some l = sym c.line_at.ensures.line ∙ c.in-Some.is in
-    let next = next_at script mon.history held fits l at in
     let size = c.len-place.ensures.number in
     let room : length mon.history < ENTRY_LIMIT = omega (arith, c.if-place.false) in
     can_on script.pages mon.ground.pages script.harts mon.ground.harts kept.board.pages kept.board.harts words mon.ground.memory held l.line
-    (can_do script within words mon kept held fits l at next room l.line refl)
+    (can_do script c.line_at.ensures.within words mon kept held c.requires.fits l at (next_at script mon.history held c.requires.fits l at) room l.line refl)
 
 pub perform-event-requires-clause-allowed : goal.perform-event-requires-clause-allowed
 perform-event-requires-clause-allowed g c =
@@ -86,27 +72,14 @@ perform-event-requires-clause-allowed g c =
 pub enter-requires-clause-performed : goal.enter-requires-clause-performed
 enter-requires-clause-performed g c =
     let script = c.args.script.now in
-    let words = g.W.Words.words c.args.w.now in
     let mon = c.args.mon.now in
     let held = hart_value c.args.hart.now in
-    let kept = c.requires.kept in
-    let fits = c.requires.fits in
-    let within = c.line_at.ensures.within in
     let l = c.in-Some.line in
-    let at : slice_get script.lines held.place ≡ Some l = sym c.line_at.ensures.line ∙ c.in-Some.is in
-    let next = next_at script mon.history held fits l at in
-    let ready = ready_at script held c.requires.prepared l next in
     let step = c.perform-event in
-    let now = g.W.Words.words step.new.w in
-    let ground = step.new.g in
-    let hosts = step.new.hart.hosts in
-    let event = step.result in
-    let none : first_behind script (after script mon.history) l.phase ≡ None =
-    subst (λ r. IfNone r (first_behind script (after script mon.history) l.phase ≡ None)) c.in_default-first_behind.is c.first_behind.ensures.none in
-    let did = parts script within words mon kept held fits l at next ready l.line refl now ground.memory hosts event
-    (done_on script.pages mon.ground.pages script.harts mon.ground.harts kept.board.pages kept.board.harts words now mon.ground.memory ground.memory held hosts event l.line step.ensures.done) in
-    let performed_so = performed script within words mon kept held fits l at next none now ground hosts event step.ensures.board did in
-    subst (λ h. IsPerformed script now (record { ground = ground; history = mon.history; progress = mon.progress }) (hart_value h) event) (sym step.ensures.hart) performed_so
+    let none = none_behind script mon.history l c.first_behind.result c.in_default-first_behind.is c.first_behind.ensures.none in
+    let did = performing script c.line_at.ensures.within (g.W.Words.words c.args.w.now) mon c.requires.kept held c.requires.fits c.requires.prepared l (sym c.line_at.ensures.line ∙ c.in-Some.is) none
+    (g.W.Words.words step.new.w) step.new.g step.new.hart.hosts step.result step.ensures.board step.ensures.done in
+    subst (λ h. IsPerformed script (g.W.Words.words step.new.w) (record { ground = step.new.g; history = mon.history; progress = mon.progress }) (hart_value h) step.result) (sym step.ensures.hart) did.performed
 
 pub returns-clause-made : goal.returns-clause-made
 returns-clause-made g c =
@@ -114,29 +87,20 @@ returns-clause-made g c =
     let words = g.W.Words.words c.args.w.now in
     let mon = c.args.mon.now in
     let held = hart_value c.args.hart.now in
-    let kept = c.requires.kept in
-    let fits = c.requires.fits in
-    let within = c.line_at.ensures.within in
     let l = c.in-Some.line in
     let at : slice_get script.lines held.place ≡ Some l = sym c.line_at.ensures.line ∙ c.in-Some.is in
-    let next = next_at script mon.history held fits l at in
-    let ready = ready_at script held c.requires.prepared l next in
     let step = c.perform-event in
     let now = g.W.Words.words step.new.w in
-    let ground = step.new.g in
-    let hosts = step.new.hart.hosts in
     let event = step.result in
-    let none : first_behind script (after script mon.history) l.phase ≡ None =
-    subst (λ r. IfNone r (first_behind script (after script mon.history) l.phase ≡ None)) c.in_default-first_behind.is c.first_behind.ensures.none in
-    let did = parts script within words mon kept held fits l at next ready l.line refl now ground.memory hosts event
-    (done_on script.pages mon.ground.pages script.harts mon.ground.harts kept.board.pages kept.board.harts words now mon.ground.memory ground.memory held hosts event l.line step.ensures.done) in
-    let performed_so = performed script within words mon kept held fits l at next none now ground hosts event step.ensures.board did in
+    let none = none_behind script mon.history l c.first_behind.result c.in_default-first_behind.is c.first_behind.ensures.none in
+    let did = performing script c.line_at.ensures.within words mon c.requires.kept held c.requires.fits c.requires.prepared l at none now step.new.g step.new.hart.hosts event step.ensures.board step.ensures.done in
     let hart : step.new.hart.hart ≡ c.args.hart.now.hart = ap (λ (h : HartState). h.hart) step.ensures.hart in
     let entry : Entry = entry_from c.args.hart.now.hart event in
     let grown : c.enter.new.mon.history ≡ mon.history ++ entry ∷ [] =
     c.enter.ensures.grown ∙ ap (λ h. mon.history ++ entry_from h event ∷ []) hart in
     last_entry (λ e. IsMade script words (g.W.Words.words c.enter.new.w) mon c.enter.new.mon held (hart_value c.enter.new.hart) e) mon.history c.enter.new.mon.history entry c.len-place.result grown c.len-place.ensures.number
-    (made script within words mon kept held fits l at next now ground hosts event performed_so did (g.W.Words.words c.enter.new.w) c.enter.new.mon (hart_value c.enter.new.hart)
+    (made script c.line_at.ensures.within words mon c.requires.kept held c.requires.fits l at (next_at script mon.history held c.requires.fits l at) now step.new.g step.new.hart.hosts event did.performed did.parts
+    (g.W.Words.words c.enter.new.w) c.enter.new.mon (hart_value c.enter.new.hart)
     c.enter.ensures.kept c.enter.ensures.fits grown (ap (λ n. n.0) (c.enter.ensures.hart ∙ hart)) c.enter.ensures.hosts c.enter.ensures.used c.enter.ensures.words)
 
 pub returns-clause-entry : goal.returns-clause-entry
@@ -153,17 +117,10 @@ returns-clause-guard g c =
 pub returns-clause-due : goal.returns-clause-due
 returns-clause-due g c =
     let script = c.args.script.now in
-    let words = g.W.Words.words c.args.w.now in
-    let mon = c.args.mon.now in
-    let held = hart_value c.args.hart.now in
-    let kept = c.requires.kept in
-    let fits = c.requires.fits in
-    let within = c.line_at.ensures.within in
+    let history = c.args.mon.now.history in
     let l = c.in-Some.line in
-    let at : slice_get script.lines held.place ≡ Some l = sym c.line_at.ensures.line ∙ c.in-Some.is in
-    let next = next_at script mon.history held fits l at in
     record {
       line = l;
-      next = next;
-      none = subst (λ r. IfNone r (first_behind script (after script mon.history) l.phase ≡ None)) c.in_default-first_behind.is c.first_behind.ensures.none;
+      next = next_at script history (hart_value c.args.hart.now) c.requires.fits l (sym c.line_at.ensures.line ∙ c.in-Some.is);
+      none = none_behind script history l c.first_behind.result c.in_default-first_behind.is c.first_behind.ensures.none;
     }

@@ -1,15 +1,24 @@
-use Rattle.std.proofs.Common.{◌≡◌, refl, arith}
-use Rattle.cove_core.proofs.BoardLemmas.{zeros_stand, first_epoch}
+use Rattle.std.proofs.Common.{ap, subst, ◌∙◌, arith, length}
+use Rattle.cove_model.specs.Histories.{after}
+use Rattle.cove_model.specs.WordLaws.{Stand}
 use Rattle.cove_model.specs.WordsStand.{epoch_in}
 use Rattle.cove_core.proofs.tests.calls_of_two_harts_are_answered_in_turn.Goals as goal
 
 pub loop-second-init : goal.loop-second-init
 loop-second-init g c =
-    let none : epoch_in 16 c.in_ok-words.words ≡ 0 = first_epoch 16 2 _ _ _ c.all_words.ensures c.in_ok-words.ensures c.in_ok-new.ensures in
+    let script = c.in_ok-script.script in
+    let board = c.in_ok-script.ensures in
+    let words = c.in_ok-built.built.words in
+    let fresh = c.in_ok-built.ensures.fresh in
+    let kept = fresh.ready.kept in
+    let S = after script c.in_ok-built.built.mon.history in
+    let none = ap length fresh.unplayed in
+    let same = ap (λ n. epoch_in n words) board.0 in
+    let few = kept.epoch in
     record {
-      pages = refl;
-      harts = refl;
-      stands = zeros_stand 16 2 _ _ _ c.all_words.ensures c.in_ok-words.ensures c.in_ok-new.ensures;
+      pages = kept.board.pages ∙ board.0;
+      harts = kept.board.harts ∙ board.1;
+      stands = (S, subst (λ n. Stand 16 n words S) board.1 (subst (λ n. Stand n script.harts words S) board.0 kept.stands), kept.frames);
       epoch = omega arith;
     }
 

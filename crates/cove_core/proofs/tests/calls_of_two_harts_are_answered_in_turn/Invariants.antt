@@ -6,8 +6,8 @@ use Rattle.cove_core.proofs.tests.calls_of_two_harts_are_answered_in_turn.Given 
 
 abbrev pub invariant-loop-second : goal.invariant-loop-second
 invariant-loop-second g l = record {
-  pages : l.ground.pages ≡ 16;
-  harts : l.ground.harts ≡ 2;
-  stands : (S : State) × Stand 16 2 l.words S × FramesStand l.ground.memory S;
-  epoch : epoch_in 16 l.words ≤ l.second-index;
+  pages : l.built.mon.ground.pages ≡ 16;
+  harts : l.built.mon.ground.harts ≡ 2;
+  stands : (S : State) × Stand 16 2 l.built.words S × FramesStand l.built.mon.ground.memory S;
+  epoch : epoch_in 16 l.built.words ≤ l.second-index;
 }

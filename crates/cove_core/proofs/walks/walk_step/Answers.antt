@@ -13,36 +13,16 @@ use Rattle.cove_core.proofs.walks.walk_step.Goals as goal
 abbrev walk_to : Target → Need
 walk_to target = Walk target
 
-pub walk-walked-requires-clause-place : goal.walk-walked-requires-clause-place
-walk-walked-requires-clause-place g c =
+pub walk-walked-requires : goal.walk-walked-requires
+walk-walked-requires g c =
     let script = c.args.script.now in
     let held = hart_value c.args.hart.now in
     let page = c.in-Walk-Host.page in
     let needed : next_need script held c.args.phase ≡ Walk (Host page) = sym c.next.ensures ∙ c.in-Walk-Host.is ∙ ap walk_to c.in-Walk-Host.field-0-is in
-    let want = wanted script held c.args.phase page needed in
-    let below = wanted_below script c.within_limits.ensures held page.0 c.requires.place want in
-    (c.requires.words page.0 below).0
-
-pub walk-walked-requires-clause-limit : goal.walk-walked-requires-clause-limit
-walk-walked-requires-clause-limit g c =
-    let script = c.args.script.now in
-    let held = hart_value c.args.hart.now in
-    let page = c.in-Walk-Host.page in
-    let needed : next_need script held c.args.phase ≡ Walk (Host page) = sym c.next.ensures ∙ c.in-Walk-Host.is ∙ ap walk_to c.in-Walk-Host.field-0-is in
-    let want = wanted script held c.args.phase page needed in
-    let below = wanted_below script c.within_limits.ensures held page.0 c.requires.place want in
+    let below = wanted_below script c.within_limits.ensures held page.0 c.requires.place (wanted script held c.args.phase page needed) in
     let few = (limits_of script c.within_limits.ensures).few_pages in
-    omega arith
-
-pub walk-walked-requires-clause-word : goal.walk-walked-requires-clause-word
-walk-walked-requires-clause-word g c =
-    let script = c.args.script.now in
-    let held = hart_value c.args.hart.now in
-    let page = c.in-Walk-Host.page in
-    let needed : next_need script held c.args.phase ≡ Walk (Host page) = sym c.next.ensures ∙ c.in-Walk-Host.is ∙ ap walk_to c.in-Walk-Host.field-0-is in
-    let want = wanted script held c.args.phase page needed in
-    let below = wanted_below script c.within_limits.ensures held page.0 c.requires.place want in
-    (c.requires.words page.0 below).1
+    let at = c.requires.words page.0 below in
+    record { place = at.0; limit = omega arith; word = at.1 }
 
 pub returns-clause-walked : goal.returns-clause-walked
 returns-clause-walked g c =

@@ -24,13 +24,15 @@ loop-k-preserved g c =
     let words = g.W.Words.words c.args.w.now in
     let k = c.loop-k.k in
     let read : c.get.result ≡ answered places words k =
-    c.get.ensures.value ∙ ap (λ ws. get_or ws c.place-in-loop-k.result 0) c.loop-k.invariant.words ∙ ap (λ p. get_or words p 0) c.place-in-loop-k.ensures in
+    c.get.ensures.value ∙ ap (λ ws. get_or ws c.place-in-loop-k.result 0) c.loop-k.invariant.unchanged.words ∙ ap (λ p. get_or words p 0) c.place-in-loop-k.ensures in
     let is : c.min-least.result ≡ min c.loop-k.least (answered places words k) =
     c.min-least.ensures ∙ ap (λ n. min c.loop-k.least n) read in
     record {
       least = least_more (answered places words) k _ _ is c.loop-k.invariant.least;
       answered = one_more (answered places words) k _ _ is c.loop-k.invariant.answered;
-      words = c.get.ensures.words ∙ c.loop-k.invariant.words;
-      clean = c.get.ensures.clean ∙ c.loop-k.invariant.clean;
-      guard = c.get.ensures.guard ∙ c.loop-k.invariant.guard;
+      unchanged = record {
+        words = c.get.ensures.words ∙ c.loop-k.invariant.unchanged.words;
+        clean = c.get.ensures.clean ∙ c.loop-k.invariant.unchanged.clean;
+        guard = c.get.ensures.guard ∙ c.loop-k.invariant.unchanged.guard;
+      };
     }

@@ -15,12 +15,12 @@ pub state-requires-clause-word : goal.state-requires-clause-word
 state-requires-clause-word g c = zero_pages _ c.in_ok-words.ensures 2
 
 pub all_host-requires-clause-page_words : goal.all_host-requires-clause-page_words
-all_host-requires-clause-page_words g c page low high = zero_pages _ (c.state.ensures.words ∙ c.in_ok-words.ensures) page
+all_host-requires-clause-page_words g c page low high = zero_pages _ (c.state.ensures.unchanged.words ∙ c.in_ok-words.ensures) page
 
 pub any_mapped-requires-clause-page_words : goal.any_mapped-requires-clause-page_words
 any_mapped-requires-clause-page_words g c page low high =
-    zero_pages _ (c.all_host.ensures.words ∙ c.state.ensures.words ∙ c.in_ok-words.ensures) page
+    zero_pages _ (c.all_host.ensures.unchanged.words ∙ c.state.ensures.unchanged.words ∙ c.in_ok-words.ensures) page
 
 pub all_free-requires-clause-page_words : goal.all_free-requires-clause-page_words
 all_free-requires-clause-page_words g c page low high =
-    zero_pages _ (c.any_mapped.ensures.words ∙ c.all_host.ensures.words ∙ c.state.ensures.words ∙ c.in_ok-words.ensures) page
+    zero_pages _ (c.any_mapped.ensures.unchanged.words ∙ c.all_host.ensures.unchanged.words ∙ c.state.ensures.unchanged.words ∙ c.in_ok-words.ensures) page
