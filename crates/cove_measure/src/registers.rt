@@ -42,6 +42,13 @@ impl Registers {
         Registers { values }
     }
 
+    /// The values of the registers, in order.
+    pub fn values(&self) -> [[u8; 48]; 5]
+        ensures { result ≡ self.now }
+    {
+        self.values
+    }
+
     /// The value of a register.
     pub fn get(&self, i: u8) -> [u8; 48]
         requires { i ≤ 4 }
