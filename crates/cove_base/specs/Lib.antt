@@ -7,6 +7,7 @@ pub mod HartLines
 pub mod HartPlaces
 pub mod HartValues
 pub mod Hmac
+pub mod InterruptFiles
 pub mod LineLinks
 pub mod Measurement
 pub mod Numbers
