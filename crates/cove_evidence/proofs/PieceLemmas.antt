@@ -1,8 +1,8 @@
 -- The pieces of evidence, joined and taken apart.
-use Rattle.std.proofs.Common.{◌≡◌, ◌≤◌, ◌+◌, ℕ, zero, suc, List, [], ◌∷◌, ◌++◌, take, drop, length, map, get_or, refl, sym, ◌∙◌, ap, arith}
+use Rattle.std.proofs.Common.{◌≡◌, ◌+◌, ℕ, List, [], ◌∷◌, ◌++◌, take, drop, length, map, get_or, refl, sym, ◌∙◌, ap, arith}
 use Rattle.std.specs.List.{concat}
 use Rattle.std.proofs.lemmas.List.{take-append-drop, drop-drop, drop_all, append_assoc, append-nil, append_cancel_left}
-use Rattle.std.proofs.Math.Seq.{drop-append_seam, take-append_seam}
+use Rattle.std.proofs.Math.Seq.{take-append_seam}
 
 -- the n bytes at a place
 abbrev pub piece : List ℕ → (n place : ℕ) → List ℕ

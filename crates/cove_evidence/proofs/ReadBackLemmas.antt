@@ -1,11 +1,10 @@
 -- What evidence that was made is read as.
-use Rattle.std.proofs.Common.{◌≡◌, ◌≢◌, ◌<◌, ◌↔◌, ℕ, List, [], ◌∷◌, ◌++◌, take, length, map, refl, sym, ◌∙◌, ap, arith}
-use Rattle.std.specs.Prelude.{Result, Ok, Err, IfOk, IsOkAnd, replicate}
+use Rattle.std.proofs.Common.{◌≡◌, ◌≢◌, ◌<◌, ℕ, List, ◌++◌, take, length, map, refl, sym, ◌∙◌, arith}
+use Rattle.std.specs.Prelude.{replicate}
 use Rattle.std.specs.List.{concat}
 use Rattle.std.proofs.lemmas.List.{append_assoc, append_cancel_left}
 use Rattle.cove_base.specs.Evidence.{evidence, evidence_body, evidence_magic}
 use Rattle.cove_base.specs.Hmac.{hmac384}
-use Rattle.cove_evidence.specs.declared.evidence.Evidence.{Evidence}
 use Rattle.cove_evidence.specs.declared.evidence.EvidenceFault.{EvidenceFault}
 use Rattle.cove_evidence.specs.declared.evidence.EvidenceFault.TheVariants.{Short, Long, BadMagic}
 use Rattle.cove_evidence.proofs.PieceLemmas.{parts_are_equal, pieces_are_equal}

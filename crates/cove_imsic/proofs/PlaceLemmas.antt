@@ -1,5 +1,5 @@
 -- The places of the files of a board.
-use Rattle.std.proofs.Common.{◌≡◌, ◌≢◌, ◌<◌, ◌≤◌, ℕ, ◌+◌, ◌*◌, ◌-◌, List, ◌⊎◌, inl, inr, length, get_or, set, replicate, sym, ◌∙◌, ap, arith, get_or-set_other, length-set}
+use Rattle.std.proofs.Common.{◌≡◌, ◌≢◌, ◌<◌, ◌≤◌, ℕ, ◌+◌, ◌*◌, ◌-◌, ◌⊎◌, inl, inr, length, set, replicate, sym, ◌∙◌, ap, arith, get_or-set_other, length-set}
 use Rattle.std.specs.Prelude.{Some, slice_get}
 use Rattle.std.proofs.lemmas.Bool.Decides.{leb_tells}
 use Rattle.std.proofs.lemmas.List.{get_or-replicate, length-replicate}

@@ -1,6 +1,5 @@
 -- What a record more does to the registers: it extends register 0 alone.
 use Rattle.std.proofs.Common.{◌≡◌, List, [], ◌∷◌, ◌++◌}
-use Rattle.std.specs.Prelude.{map}
 use Rattle.std.proofs.lemmas.List.{map-append}
 use Rattle.std.proofs.lemmas.List.Sums.{fold-append}
 use Rattle.cove_base.specs.Measurement.{Record, Extension, record_bytes, registers_of, extended_at}

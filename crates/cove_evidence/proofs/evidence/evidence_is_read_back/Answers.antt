@@ -1,7 +1,7 @@
-use Rattle.std.proofs.Common.{◌≡◌, ◌++◌, take, length, map, sym, ◌∙◌, ap, arith}
+use Rattle.std.proofs.Common.{◌≡◌, ◌++◌, take, length, map, sym, ◌∙◌, ap}
 use Rattle.std.specs.Prelude.{Err, replicate}
 use Rattle.std.proofs.lemmas.Result.{IfOk-at_ok}
-use Rattle.cove_base.specs.Evidence.{evidence, evidence_body, evidence_magic}
+use Rattle.cove_base.specs.Evidence.{evidence_body, evidence_magic}
 use Rattle.cove_evidence.proofs.ReadBackLemmas.{no_fault, one_reading, take-evidence}
 use Rattle.cove_evidence.proofs.evidence.evidence_is_read_back.Goals as goal
 

@@ -1,4 +1,3 @@
-use Rattle.std.proofs.Common.{map, length}
 use Rattle.cove_evidence.proofs.PieceLemmas.{five}
 use Rattle.cove_evidence.proofs.evidence.have_register_lengths.Goals as goal
 

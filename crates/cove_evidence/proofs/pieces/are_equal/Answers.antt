@@ -1,4 +1,4 @@
-use Rattle.std.proofs.Common.{◌≡◌, ◌<◌, ℕ, ap, refl, get_or, below_more, eq-eqb, arith}
+use Rattle.std.proofs.Common.{◌≡◌, ap, get_or, below_more, eq-eqb, arith}
 use Rattle.std.proofs.lemmas.Bool.{eqb-true}
 use Rattle.std.proofs.lemmas.List.{ext_get_or}
 use Rattle.cove_evidence.proofs.BitLemmas.{or-zero, xor-same, xor-zero}

@@ -1,4 +1,4 @@
-use Rattle.std.proofs.Common.{◌<◌, ◌^◌, ap, arith, sym}
+use Rattle.std.proofs.Common.{ap, arith, sym}
 use Rattle.std.specs.Prelude.{bit_and}
 use Rattle.std.proofs.lemmas.Nat.{and_le_r}
 use Rattle.cove_base.specs.InterruptFiles.{InterruptFile}
