@@ -1,11 +1,15 @@
 pub mod CallWords
 pub mod CompactEntries
 pub mod EventWords
+pub mod Evidence
 pub mod Guards
 pub mod HartLines
 pub mod HartPlaces
 pub mod HartValues
+pub mod Hmac
+pub mod InterruptFiles
 pub mod LineLinks
+pub mod Measurement
 pub mod Numbers
 pub mod PageWords
 pub mod Places

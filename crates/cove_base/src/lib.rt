@@ -7,6 +7,7 @@ mod compact;
 mod events;
 mod faults;
 mod histories;
+mod instructions;
 mod limits;
 mod lists;
 mod numbers;
@@ -26,6 +27,7 @@ pub use calls::{GuestAct, HostCall};
 pub use events::{Entry, Event, Exit, How, Walked};
 pub use faults::{Kind, ScriptFault};
 pub use histories::History;
+pub use instructions::CsrMode;
 pub use limits::{
     ENTRY_LIMIT, FILE_LIMIT, FUEL_LIMIT, HART_LIMIT, KEY_LIMIT, PAGE_LIMIT, PHASE_LIMIT,
     QUOTE_LIMIT, RANGE_LIMIT, REGION_LIMIT, SCRIPT_LIMIT, SHARED_RUN_LIMIT, TVM_LIMIT, VCPU_LIMIT,
