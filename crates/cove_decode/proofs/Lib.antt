@@ -1,0 +1,4 @@
+pub mod AgainLemmas
+pub mod FieldLemmas
+pub mod OpcodeLemmas
+pub mod RoundLemmas
