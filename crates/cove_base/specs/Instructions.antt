@@ -1,4 +1,4 @@
-use Rattle.std.specs.Prelude.{◌≡◌, ℕ, ◌+◌, ◌-◌, ◌*◌, ◌/◌, ◌%◌, ◌^◌, ◌<◌, ℤ, pos, negsuc, ◌≤ℤ◌, ◌<ℤ◌, Bool, ◌==◌, ◌&&◌, nat_lt, Option, Some, None, if◌then◌else◌}
+use Rattle.std.specs.Prelude.{ℕ, ◌+◌, ◌-◌, ◌*◌, ◌/◌, ◌%◌, ◌^◌, ℤ, pos, negsuc, Bool, ◌==◌, ◌&&◌, nat_lt, Option, Some, None, if◌then◌else◌}
 use Rattle.cove_base.specs.declared.instructions.Insn.{Insn}
 use Rattle.cove_base.specs.declared.instructions.Insn.TheVariants.{Lui, Auipc, Jal, Jalr, Beq, Bne, Blt, Bge, Bltu, Bgeu, Lb, Lh, Lw, Ld, Lbu, Lhu, Lwu, Sb, Sh, Sw, Sd, Addi, Slti, Sltiu, Xori, Ori, Andi, Slli, Srli, Srai, Addiw, Slliw, Srliw, Sraiw, Add, Sub, Sll, Slt, Sltu, Xor, Srl, Sra, Or, And, Addw, Subw, Sllw, Srlw, Sraw, Fence, Ecall, Ebreak, Wfi, Csrrw, Csrrs, Csrrc, Csrrwi, Csrrsi, Csrrci}
 
@@ -173,7 +173,8 @@ decoded word =
     else if opcode word == 0x63 then branch_of (funct3 word) (rs1 word) (rs2 word) (imm_b word)
     else if opcode word == 0x03 then load_of (funct3 word) (rd word) (rs1 word) (imm_i word)
     else if opcode word == 0x23 then store_of (funct3 word) (rs1 word) (rs2 word) (imm_s word)
-    else if opcode word == 0x13 && is_shift (funct3 word) then shift_of (funct6 word) (funct3 word) (rd word) (rs1 word) (pos (shamt word))
+    else if opcode word == 0x13 && is_shift (funct3 word) then
+        shift_of (funct6 word) (funct3 word) (rd word) (rs1 word) (pos (shamt word))
     else if opcode word == 0x13 then immediate_of (funct3 word) (rd word) (rs1 word) (imm_i word)
     else if opcode word == 0x1b && funct3 word == 0 then Some (Addiw (rd word) (rs1 word) (imm_i word))
     else if opcode word == 0x1b then shift_of_32 (funct7 word) (funct3 word) (rd word) (rs1 word) (pos (rs2 word))

@@ -1,10 +1,10 @@
-use Rattle.std.proofs.Common.{◌≡◌, ℕ, suc, ◌+◌, ◌-◌, ◌*◌, ◌/◌, ◌%◌, ◌^◌, ◌<◌, ◌≤◌, ℤ, pos, negsuc, Bool, true, false, refl, sym, ap, ◌∙◌, arith, cond, ◌⊎◌, inl, inr}
+use Rattle.std.proofs.Common.{◌≡◌, ℕ, suc, ◌+◌, ◌-◌, ◌*◌, ◌/◌, ◌%◌, ◌^◌, ◌<◌, ◌≤◌, ℤ, pos, negsuc, true, false, refl, ap, ◌∙◌, arith, inl, inr}
 use Rattle.std.proofs.lemmas.Bool.Decides.{nat_tests}
 use Rattle.std.proofs.lemmas.Int.{ints}
-use Rattle.std.proofs.lemmas.Bool.{cond_both, ltb-true, ltb-false, cases_lt}
+use Rattle.std.proofs.lemmas.Bool.{cases_lt}
 use Rattle.std.specs.Prelude.{nat_lt}
-use Rattle.cove_base.specs.Instructions.{signed, imm_i, imm_s, imm_b, imm_u, imm_j, funct7, rd}
-use Rattle.cove_base.specs.Encodings.{bits_of, r_format, i_format, u_format, j_format, IsImmediate, IsShift}
+use Rattle.cove_base.specs.Instructions.{signed, imm_i, imm_s, imm_b, imm_u, imm_j}
+use Rattle.cove_base.specs.Encodings.{bits_of, r_format, i_format, IsImmediate}
 
 -- a word has these fields: opcode, rd, funct3, rs1, rs2 and funct7
 pub record HasFields (w o d f a b h : ℕ) : Type 0 where

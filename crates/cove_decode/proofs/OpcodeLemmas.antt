@@ -1,4 +1,4 @@
-use Rattle.std.proofs.Common.{◌≡◌, ℕ, ◌%◌, ◌==◌, pos, Bool, true, false, Some, None, refl, arith, sym, ap, ◌∙◌, ℤ, ◌<◌, ◌^◌, Option}
+use Rattle.std.proofs.Common.{◌≡◌, ℕ, ◌%◌, ◌==◌, pos, true, false, Some, refl, arith, sym, ap, ◌∙◌, ℤ, ◌<◌, ◌^◌, Option}
 use Rattle.std.proofs.lemmas.Bool.Decides.{nat_tests}
 use Rattle.std.proofs.lemmas.Int.{to_z-of_z, to_z_pos}
 use Rattle.std.specs.Int.{w64, cast_signed, cast_unsigned}

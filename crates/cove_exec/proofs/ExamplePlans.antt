@@ -2,7 +2,6 @@ use Rattle.std.proofs.Common.{◌≡◌, ℕ, pos, negsuc, true, false, List, �
 use Rattle.cove_base.specs.Executions.{plan, goes_on, picked, merged}
 use Rattle.cove_base.specs.declared.instructions.CsrMode.TheVariants.{Write, Set, Clear}
 use Rattle.cove_base.specs.declared.instructions.Insn.TheVariants.{Add, Addiw, Addw, Andi, Auipc, Blt, Bltu, Bne, Csrrci, Csrrs, Csrrwi, Jal, Jalr, Lb, Ld, Lui, Lw, Ori, Sd, Sh, Sll, Slliw, Sllw, Slt, Slti, Sltiu, Sltu, Sra, Sraiw, Sraw, Srl, Srliw, Srlw, Sub, Subw, Xori}
-use Rattle.cove_base.specs.declared.plans.Plan.{Plan}
 use Rattle.cove_base.specs.declared.plans.Plan.TheVariants as plans
 
 -- Values as in the tests of RISC-V International (riscv-tests, rv64ui) and by the text of the unprivileged ISA manual.

@@ -1,9 +1,9 @@
-use Rattle.std.proofs.Common.{◌≡◌, ℕ, ◌+◌, ◌/◌, ◌*◌, ◌%◌, ◌<◌, ◌==◌, ℤ, Bool, true, false, not, List, refl, arith}
+use Rattle.std.proofs.Common.{ℕ, ◌/◌, ◌*◌, ◌%◌, ◌<◌, ◌==◌, ℤ, Bool, true, false, not, List, refl, arith}
 use Rattle.std.proofs.lemmas.Bool.{cond_both, eqb-true}
 use Rattle.cove_base.specs.Encodings.{Fits}
 use Rattle.std.specs.Prelude.{nat_lt}
 use Rattle.cove_base.specs.Registers.{register}
-use Rattle.cove_base.specs.Executions.{plan, plus, word_of, is_less_signed, goes_on, jumps, branches, loads, stores, IsSize, IsUsable}
+use Rattle.cove_base.specs.Executions.{plan, plus, word_of, is_less_signed, jumps, branches, loads, stores, IsSize, IsUsable}
 use Rattle.cove_base.specs.declared.instructions.Insn.{Insn}
 use Rattle.cove_base.specs.declared.instructions.Insn.TheVariants.{Lui, Auipc, Jal, Jalr, Beq, Bne, Blt, Bge, Bltu, Bgeu, Lb, Lh, Lw, Ld, Lbu, Lhu, Lwu, Sb, Sh, Sw, Sd, Addi, Slti, Sltiu, Xori, Ori, Andi, Slli, Srli, Srai, Addiw, Slliw, Srliw, Sraiw, Add, Sub, Sll, Slt, Sltu, Xor, Srl, Sra, Or, And, Addw, Subw, Sllw, Srlw, Sraw, Fence, Ecall, Ebreak, Wfi, Csrrw, Csrrs, Csrrc, Csrrwi, Csrrsi, Csrrci}
 

@@ -1,6 +1,4 @@
-use Rattle.std.proofs.Common.{◌≡◌, ℕ, ◌%◌, ◌<◌, ◌^◌, arith, rules}
-use Rattle.std.specs.Int.{w64}
-use Rattle.std.specs.Prelude.{FitsSigned}
+use Rattle.std.proofs.Common.{arith, rules}
 use Rattle.cove_decode.proofs.OpcodeLemmas.{from_branch, from_load, from_store, from_immediate, from_shift_32}
 use Rattle.cove_decode.proofs.decoder.instruction.Goals as goal
 

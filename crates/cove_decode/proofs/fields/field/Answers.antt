@@ -1,4 +1,4 @@
-use Rattle.std.proofs.Common.{◌≡◌, ℕ, ◌/◌, ◌-◌, ◌^◌, ap, ◌∙◌}
+use Rattle.std.proofs.Common.{ℕ, ◌/◌, ◌-◌, ◌^◌, ap, ◌∙◌}
 use Rattle.std.proofs.lemmas.Nat.{and_mask, one_shl}
 use Rattle.std.specs.Prelude.{bit_and}
 use Rattle.cove_decode.proofs.fields.field.Goals as goal

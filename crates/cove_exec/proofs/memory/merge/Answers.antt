@@ -1,4 +1,4 @@
-use Rattle.std.proofs.Common.{◌≡◌, ℕ, ◌%◌, ◌*◌, ◌<◌, ◌^◌, arith, rules}
+use Rattle.std.proofs.Common.{◌%◌, ◌*◌, arith, rules}
 use Rattle.cove_exec.proofs.MemoryLemmas.{IsMergedFrom, merged_from}
 use Rattle.cove_exec.proofs.memory.merge.Goals as goal
 

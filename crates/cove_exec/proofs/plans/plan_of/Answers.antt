@@ -1,8 +1,4 @@
-use Rattle.std.proofs.Common.{◌≡◌, ℕ, List}
-use Rattle.cove_base.specs.Encodings.{Fits}
-use Rattle.cove_base.specs.Executions.{plan, IsUsable}
 use Rattle.cove_base.specs.Registers.{registers}
-use Rattle.cove_base.specs.declared.plans.Plan.{Plan}
 use Rattle.cove_exec.proofs.UsableLemmas.{usable}
 use Rattle.cove_exec.proofs.plans.plan_of.Goals as goal
 
