@@ -1,12 +1,15 @@
 pub mod CallWords
 pub mod CompactEntries
+pub mod Encodings
 pub mod EventWords
 pub mod Evidence
+pub mod Executions
 pub mod Guards
 pub mod HartLines
 pub mod HartPlaces
 pub mod HartValues
 pub mod Hmac
+pub mod Instructions
 pub mod InterruptFiles
 pub mod LineLinks
 pub mod Measurement
@@ -14,6 +17,7 @@ pub mod Numbers
 pub mod PageWords
 pub mod Places
 pub mod Ranges
+pub mod Registers
 pub mod Rings
 pub mod Scripts
 pub mod Statuses

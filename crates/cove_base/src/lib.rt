@@ -12,8 +12,10 @@ mod limits;
 mod lists;
 mod numbers;
 mod places;
+mod plans;
 mod quotes;
 mod ranges;
+mod registers;
 mod script_lines;
 mod scripts;
 mod statuses;
@@ -27,7 +29,7 @@ pub use calls::{GuestAct, HostCall};
 pub use events::{Entry, Event, Exit, How, Walked};
 pub use faults::{Kind, ScriptFault};
 pub use histories::History;
-pub use instructions::CsrMode;
+pub use instructions::{CsrMode, Insn};
 pub use limits::{
     ENTRY_LIMIT, FILE_LIMIT, FUEL_LIMIT, HART_LIMIT, KEY_LIMIT, PAGE_LIMIT, PHASE_LIMIT,
     QUOTE_LIMIT, RANGE_LIMIT, REGION_LIMIT, SCRIPT_LIMIT, SHARED_RUN_LIMIT, TVM_LIMIT, VCPU_LIMIT,
@@ -39,8 +41,10 @@ pub use places::{
     all_words, answered_word, count_word, epoch_word, hart_word, page_word, places_law, table_word,
     tvm_word,
 };
+pub use plans::Plan;
 pub use quotes::Quote;
 pub use ranges::{PageRange, RangeFault, range_of};
+pub use registers::Regs;
 pub use script_lines::Lines;
 pub use scripts::{Fill, Line, Script, ScriptLine};
 pub use statuses::{Reply, Status};

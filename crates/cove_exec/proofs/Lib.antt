@@ -1,0 +1,3 @@
+pub mod ExamplePlans
+pub mod MemoryLemmas
+pub mod UsableLemmas
