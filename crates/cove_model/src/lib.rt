@@ -4,8 +4,9 @@
 //! function with an empty body.
 
 mod laws;
-mod readings;
 mod rules;
+mod script_examples;
+mod script_laws;
 mod standing;
 
 pub use laws::{
@@ -14,6 +15,7 @@ pub use laws::{
     states_are_sound, steps_are_determined, still_rounds_are_last, translations_are_usable,
     unbuilt_calls_are_refused, worked_examples,
 };
-pub use readings::{Place, Reading};
 pub use rules::{boundary_law, store_law};
+pub use script_examples::{refused_lines, worked_scripts};
+pub use script_laws::fronts_are_scripts;
 pub use standing::{frames_law, lawful_law, telling_law, words_law};
