@@ -1,7 +1,7 @@
 -- What the limits of a script say of its board, its lines and its turns.
 use Rattle.std.proofs.Common.{◌≡◌, ℕ, zero, suc, ◌*◌, ◌/◌, ◌%◌, ◌^◌, ◌<◌, ◌≤◌, Bool, true, ◌==◌, ◌&&◌, List, [], ◌∷◌, Option, None, Some, IfSome, IsTrue, nat_lt, nat_le, length, slice_get, refl, subst, arith}
 use Rattle.std.specs.List.{AllByRecursion, list_all}
-use Rattle.std.proofs.lemmas.Bool.{and_parts, ltb-true, leb-true}
+use Rattle.std.proofs.lemmas.Bool.{and_parts, and_from, ltb-true, leb-true}
 use Rattle.cove_base.specs.HartValues.{accessed_page}
 use Rattle.cove_base.specs.Scripts.{ScriptValue, is_within_limits, is_script_line, is_line_within, is_word_address, is_fill, phases_rise_from}
 use Rattle.cove_base.specs.declared.limits.TheConstants.{PAGE_LIMIT, HART_LIMIT, FILE_LIMIT, KEY_LIMIT, PHASE_LIMIT}
@@ -9,17 +9,19 @@ use Rattle.cove_base.specs.declared.scripts.Line.{Line}
 use Rattle.cove_base.specs.declared.scripts.Line.TheVariants.{Call, Load, Store}
 use Rattle.cove_base.specs.declared.scripts.ScriptLine.{ScriptLine}
 
--- each item passes a test that the list passes
-all_from_test : {X : Type 0} (test : X → Bool) (xs : List X) → list_all test xs ≡ true → AllByRecursion (λ x. test x ≡ true) xs
-all_from_test test [] e = tt
-all_from_test test (x ∷ xs) e =
-    let p = and_parts (test x) (list_all test xs) e in
-    (p.0, all_from_test test xs p.1)
+-- a list passes a test that follows from another one that it passes
+pub all_weaker : {X : Type 0} (p q : X → Bool) → ((x : X) → p x ≡ true → q x ≡ true) → (xs : List X) → list_all p xs ≡ true → list_all q xs ≡ true
+all_weaker p q f [] all = refl
+all_weaker p q f (x ∷ xs) all =
+    let both = and_parts (p x) (list_all p xs) all in
+    and_from _ _ (f x both.0) (all_weaker p q f xs both.1)
 
--- what each item gives, all give
-all_weaker : {X : Type 0} (P Q : X → Type 0) (xs : List X) → ((x : X) → P x → Q x) → AllByRecursion P xs → AllByRecursion Q xs
-all_weaker P Q [] f all = tt
-all_weaker P Q (x ∷ xs) f all = (f x all.0, all_weaker P Q xs f all.1)
+-- what a test says, it says of each item of a list that passes it
+pub all_from_test : {X : Type 0} (p : X → Bool) (P : X → Type 0) → ((x : X) → p x ≡ true → P x) → (xs : List X) → list_all p xs ≡ true → AllByRecursion P xs
+all_from_test p P f [] all = tt
+all_from_test p P f (x ∷ xs) all =
+    let both = and_parts (p x) (list_all p xs) all in
+    (f x both.0, all_from_test p P f xs both.1)
 
 -- the line of a hart of the board
 pub record IsWithin (pages harts : ℕ) (l : ScriptLine) : Type 0 where
@@ -33,41 +35,65 @@ line_within pages harts line e =
     let b = and_parts (nat_lt line.hart.0 harts) (nat_lt line.phase PHASE_LIMIT) a.0 in
     record { hart = ltb-true line.hart.0 harts b.0; line = a.1 }
 
+-- the limits of a script, by their tests
+pub record Tests (script : ScriptValue) : Type 0 where
+  pub board : (nat_le 1 script.pages && nat_le script.pages PAGE_LIMIT && nat_le 1 script.harts && nat_le script.harts HART_LIMIT && nat_le script.files FILE_LIMIT) ≡ true
+  pub some_key : nat_le 1 (length script.key) ≡ true
+  pub few_key : nat_le (length script.key) KEY_LIMIT ≡ true
+  pub fills : list_all (is_fill script.pages) script.fills ≡ true
+  pub lines : list_all (is_script_line script.pages script.harts) script.lines ≡ true
+  pub phases : phases_rise_from 0 script.lines ≡ true
+  pub turns : list_all (λ hart. nat_lt hart script.harts) script.turns ≡ true
+
+pub tests_of : (script : ScriptValue) → is_within_limits script ≡ true → Tests script
+unfolding is_within_limits
+tests_of script e =
+    let turns = and_parts _ _ e in
+    let phases = and_parts _ _ turns.0 in
+    let lines = and_parts _ _ phases.0 in
+    let fills = and_parts _ _ lines.0 in
+    let key = and_parts _ _ fills.0 in
+    let board = and_parts _ _ key.0 in
+    record { board = board.0; some_key = board.1; few_key = key.1; fills = fills.1; lines = lines.1; phases = phases.1; turns = turns.1 }
+
+pub within_from_tests : (script : ScriptValue) → Tests script → is_within_limits script ≡ true
+unfolding is_within_limits
+within_from_tests script t =
+    and_from _ _ (and_from _ _ (and_from _ _ (and_from _ _ (and_from _ _ (and_from _ _ t.board t.some_key) t.few_key) t.fills) t.lines) t.phases) t.turns
+
 -- a script is within its limits
 pub record Limits (script : ScriptValue) : Type 0 where
   pub some_pages : 1 ≤ script.pages
   pub few_pages : script.pages ≤ PAGE_LIMIT
   pub some_harts : 1 ≤ script.harts
   pub few_harts : script.harts ≤ HART_LIMIT
+  pub few_files : script.files ≤ FILE_LIMIT
   pub fills : list_all (is_fill script.pages) script.fills ≡ true
   pub lines : AllByRecursion (IsWithin script.pages script.harts) script.lines
   pub phases : phases_rise_from 0 script.lines ≡ true
   pub turns : AllByRecursion (λ hart. hart < script.harts) script.turns
 
--- the limits, from the test that a script passes
-pub limits_of : (script : ScriptValue) → IsTrue (is_within_limits script) → Limits script
-unfolding is_within_limits
-limits_of script e =
-    let turns = and_parts _ (list_all (λ hart. nat_lt hart script.harts) script.turns) e in
-    let phases = and_parts _ (phases_rise_from 0 script.lines) turns.0 in
-    let lines = and_parts _ (list_all (is_script_line script.pages script.harts) script.lines) phases.0 in
-    let fills = and_parts _ (list_all (is_fill script.pages) script.fills) lines.0 in
-    let key = and_parts _ (nat_le (length script.key) KEY_LIMIT) fills.0 in
-    let some = and_parts _ (nat_le 1 (length script.key)) key.0 in
-    let files = and_parts _ (nat_le script.files FILE_LIMIT) some.0 in
-    let harts = and_parts _ (nat_le script.harts HART_LIMIT) files.0 in
-    let hart = and_parts _ (nat_le 1 script.harts) harts.0 in
-    let pages = and_parts _ (nat_le script.pages PAGE_LIMIT) hart.0 in
+pub limits_from_tests : (script : ScriptValue) → Tests script → Limits script
+limits_from_tests script t =
+    let files = and_parts _ _ t.board in
+    let harts = and_parts _ _ files.0 in
+    let hart = and_parts _ _ harts.0 in
+    let pages = and_parts _ _ hart.0 in
     record {
       some_pages = leb-true _ _ pages.0;
       few_pages = leb-true script.pages PAGE_LIMIT pages.1;
       some_harts = leb-true _ _ hart.1;
       few_harts = leb-true script.harts HART_LIMIT harts.1;
-      fills = fills.1;
-      lines = all_weaker _ _ script.lines (line_within script.pages script.harts) (all_from_test (is_script_line script.pages script.harts) script.lines lines.1);
-      phases = phases.1;
-      turns = all_weaker _ _ script.turns (λ h t. ltb-true h script.harts t) (all_from_test (λ hart. nat_lt hart script.harts) script.turns turns.1);
+      few_files = leb-true script.files FILE_LIMIT files.1;
+      fills = t.fills;
+      lines = all_from_test (is_script_line script.pages script.harts) _ (line_within script.pages script.harts) script.lines t.lines;
+      phases = t.phases;
+      turns = all_from_test (λ hart. nat_lt hart script.harts) _ (λ h below. ltb-true h script.harts below) script.turns t.turns;
     }
+
+-- the limits, from the test that a script passes
+pub limits_of : (script : ScriptValue) → IsTrue (is_within_limits script) → Limits script
+limits_of script e = limits_from_tests script (tests_of script e)
 
 -- the line at a place
 within_at : (pages harts : ℕ) (lines : List ScriptLine) (i : ℕ) (line : ScriptLine) → AllByRecursion (IsWithin pages harts) lines → slice_get lines i ≡ Some line → IsWithin pages harts line

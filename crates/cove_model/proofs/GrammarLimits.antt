@@ -1,21 +1,19 @@
 -- Each line that the grammar accepts keeps the limits of a script.
-use Rattle.std.proofs.Common.{◌≡◌, ℕ, ◌+◌, ◌^◌, ◌<◌, ◌≤◌, Bool, true, false, cond, ◌&&◌, not, nat_le, nat_lt, List, [], ◌∷◌, ◌++◌, length, map, Option, Some, None, Result, Ok, Err, refl, subst, ◌∙◌, arith}
+use Rattle.std.proofs.Common.{◌≡◌, ℕ, ◌+◌, ◌^◌, ◌<◌, ◌≤◌, Bool, true, false, cond, ◌&&◌, not, nat_le, nat_lt, List, [], ◌∷◌, ◌++◌, map, Option, Some, None, Result, Ok, Err, refl, subst, ◌∙◌, arith}
 use Rattle.std.specs.List.{list_all}
 use Rattle.std.specs.Option.{option_map_or}
 use Rattle.std.proofs.lemmas.Bool.{not-false, and_parts, and_from, leb-true, le-leb, lt-ltb}
 use Rattle.std.proofs.lemmas.List.{append-nil}
 use Rattle.std.proofs.lemmas.List.Folds.{list_all-append}
-use Rattle.cove_base.specs.declared.limits.TheConstants.{PAGE_LIMIT, KEY_LIMIT, PHASE_LIMIT}
+use Rattle.cove_base.proofs.ScriptLimits.{Tests, all_weaker, limits_from_tests, within_from_tests}
+use Rattle.cove_base.specs.declared.limits.TheConstants.{PHASE_LIMIT}
 use Rattle.cove_base.specs.declared.faults.Kind.{Kind}
 use Rattle.cove_base.specs.declared.faults.Kind.TheVariants.{NotAscii, BadHeader, UnknownWord, BadNumber, WrongCount, OutOfBoard}
 use Rattle.cove_base.specs.declared.scripts.Line.{Line}
 use Rattle.cove_base.specs.declared.scripts.ScriptLine.{ScriptLine}
 use Rattle.cove_base.specs.Text.{text_words}
 use Rattle.cove_base.specs.Scripts.{is_within_limits, is_fill, is_script_line, is_line_within, phases_rise_from}
-use Rattle.cove_model.specs.declared.readings.Place.{Place}
-use Rattle.cove_model.specs.declared.readings.Place.TheVariants.{Start, Setup, Body, After}
-use Rattle.cove_model.specs.declared.readings.Reading.{Reading}
-use Rattle.cove_model.specs.Grammar.{Word, is_ascii, is_remark, is_in_setup, value, is_hex, line_of, Content, BoardLine, KeyLine, FillLine, PhaseLine, TurnsLine, EndLine, HartAlone, HartLine, Unknown, content_of, is_bad_header, is_unknown, has_bad_number, has_wrong_count, is_out_of_board, is_before_board, is_board, script_lines, after, judged, words_read, line_read, opening_reading, script_in}
+use Rattle.cove_model.specs.Grammar.{Word, Reading, is_ascii, is_remark, value, is_hex, line_of, Content, BoardLine, KeyLine, FillLine, PhaseLine, TurnsLine, EndLine, HartAlone, HartLine, Unknown, content_of, is_header, is_bad_header, is_unknown, has_bad_number, has_wrong_count, is_out_of_board, script_lines, after, judged, words_read, line_read, opening_reading}
 
 -- ---- what a reading keeps
 
@@ -24,50 +22,27 @@ is_of_phase phase line = nat_le line.phase phase
 
 -- the script so far keeps the limits, and its lines are of no later phase; before the board it is empty
 pub record IsSound (R : Reading) : Type 0 where
-  pub board : is_board (R.pages ∷ R.harts ∷ R.files ∷ []) ≡ true
-  pub some_key : nat_le 1 (length R.key) ≡ true
-  pub key : nat_le (length R.key) KEY_LIMIT ≡ true
-  pub fills : list_all (is_fill R.pages) R.fills ≡ true
-  pub lines : list_all (is_script_line R.pages R.harts) R.lines ≡ true
-  pub rise : phases_rise_from 0 R.lines ≡ true
-  pub past : list_all (is_of_phase R.phase) R.lines ≡ true
-  pub turns : list_all (λ hart. nat_lt hart R.harts) R.turns ≡ true
-  pub fresh : R.place ≡ Start → (R.fills ≡ []) × (R.lines ≡ []) × (R.turns ≡ [])
+  pub tests : Tests R.script
+  pub past : list_all (is_of_phase R.phase) R.script.lines ≡ true
+  pub fresh : R.has_board ≡ false → (R.script.fills ≡ []) × (R.script.lines ≡ []) × (R.script.turns ≡ [])
 
 pub opening_is_sound : IsSound opening_reading
 opening_is_sound = record {
-  board = refl;
-  some_key = refl;
-  key = refl;
-  fills = refl;
-  lines = refl;
-  rise = refl;
+  tests = record { board = refl; some_key = refl; few_key = refl; fills = refl; lines = refl; phases = refl; turns = refl };
   past = refl;
-  turns = refl;
   fresh = λ e. (refl, refl, refl);
 }
 
-pub sound_is_within : (R : Reading) → IsSound R → is_within_limits (script_in R) ≡ true
-unfolding is_within_limits
-sound_is_within R s =
-    and_from _ _ (and_from _ _ (and_from _ _ (and_from _ _ (and_from _ _ (and_from _ _ s.board s.some_key) s.key) s.fills) s.lines) s.rise) s.turns
+pub sound_is_within : (R : Reading) → IsSound R → is_within_limits R.script ≡ true
+sound_is_within R s = within_from_tests R.script s.tests
 
-board_is_small : (pages harts files : ℕ) → is_board (pages ∷ harts ∷ files ∷ []) ≡ true → pages < 2 ^ 20
-board_is_small pages harts files e =
-    let p : nat_le pages PAGE_LIMIT ≡ true = (and_parts _ _ (and_parts _ _ (and_parts _ _ (and_parts _ _ e).0).0).0).1 in
-    omega (arith, leb-true pages PAGE_LIMIT p)
-
-pub sound_is_small : (R : Reading) → IsSound R → R.pages < 2 ^ 20
-sound_is_small R s = board_is_small R.pages R.harts R.files s.board
+pub sound_is_small : (R : Reading) → IsSound R → R.script.pages < 2 ^ 20
+sound_is_small R s = omega (arith, (limits_from_tests R.script s.tests).few_pages)
 
 -- ---- lists that grow
 
 all_push : {X : Type 0} (p : X → Bool) (xs ys : List X) → list_all p xs ≡ true → list_all p ys ≡ true → list_all p (xs ++ ys) ≡ true
 all_push p xs ys a b = list_all-append p xs ys ∙ and_from _ _ a b
-
-all_weaker : {X : Type 0} (p q : X → Bool) (h : (x : X) → p x ≡ true → q x ≡ true) (xs : List X) → list_all p xs ≡ true → list_all q xs ≡ true
-all_weaker p q h [] e = refl
-all_weaker p q h (x ∷ xs) e = let both = and_parts (p x) (list_all p xs) e in and_from _ _ (h x both.0) (all_weaker p q h xs both.1)
 
 rise_push : (first : ℕ) (lines : List ScriptLine) (line : ScriptLine) → first ≤ line.phase → phases_rise_from first lines ≡ true → list_all (is_of_phase line.phase) lines ≡ true → phases_rise_from first (lines ++ line ∷ []) ≡ true
 rise_push first [] line le rise past = and_from _ _ (le-leb first line.phase le) refl
@@ -106,39 +81,25 @@ accepted R content S e =
     let f = passed (is_out_of_board R content) OutOfBoard _ S d.1 in
     record { header = a.0; known = b.0; numbers = c.0; count = d.0; within = f.0; is = ok_is (after R content) S (Ok (after R content)) (Ok S) refl refl f.1 }
 
-is_start : (place : Place) → is_before_board place ≡ true → place ≡ Start
-is_start Start e = refl
-is_start Setup e = absurd cc
-is_start Body e = absurd cc
-is_start After e = absurd cc
-
 -- a reading that kept the limits keeps them, and its phase is the next one at most
 pub record Keeps (R S : Reading) : Type 0 where
   pub sound : IsSound S
   pub phase : S.phase ≤ R.phase + 1
 
-not_start : (place : Place) (P : Type 0) → not (is_before_board place) ≡ true → place ≡ Start → P
-not_start Start P e s = absurd cc
-not_start Setup P e s = absurd cc
-not_start Body P e s = absurd cc
-not_start After P e s = absurd cc
+-- a line that is not the board's comes after the board's
+board_is_first : (R : Reading) (content : Content) (P : Type 0) → is_header content ≡ false → is_bad_header R content ≡ false → R.has_board ≡ false → P
+board_is_first R content P other header none = absurd (let h : true ≡ false = rw (none, other) at header in cc)
 
 keeps_board : (R : Reading) (words : List Word) → IsSound R → IsAccepted R (BoardLine words) (after R (BoardLine words)) → Keeps R (after R (BoardLine words))
 keeps_board R [] s a = absurd (let e = a.within in cc)
 keeps_board R (x ∷ []) s a = absurd (let e = a.within in cc)
 keeps_board R (x ∷ y ∷ []) s a = absurd (let e = a.within in cc)
 keeps_board R (x ∷ y ∷ z ∷ more) s a =
-    let empty = s.fresh (is_start R.place (not-false _ a.known)) in
+    let empty = s.fresh a.known in
     record {
       sound = record {
-        board = not-false _ a.within;
-        some_key = s.some_key;
-        key = s.key;
-        fills = rw empty.0 refl;
-        lines = rw empty.1 refl;
-        rise = s.rise;
+        tests = record { board = not-false _ a.within; fills = rw empty.0 refl; lines = rw empty.1 refl; turns = rw empty.2 refl; some_key = s.tests.some_key; few_key = s.tests.few_key; phases = s.tests.phases };
         past = s.past;
-        turns = rw empty.2 refl;
         fresh = λ e. absurd cc;
       };
       phase = omega arith;
@@ -148,14 +109,8 @@ keeps_key : (R : Reading) (words : List Word) → IsSound R → IsAccepted R (Ke
 keeps_key R [] s a = absurd (let e = a.within in cc)
 keeps_key R (hex ∷ more) s a = record {
   sound = record {
-    board = s.board;
-    some_key = (and_parts _ _ (not-false _ a.numbers)).0;
-    key = not-false _ a.within;
-    fills = s.fills;
-    lines = s.lines;
-    rise = s.rise;
+    tests = record { some_key = (and_parts _ _ (not-false _ a.numbers)).0; few_key = not-false _ a.within; board = s.tests.board; fills = s.tests.fills; lines = s.tests.lines; phases = s.tests.phases; turns = s.tests.turns };
     past = s.past;
-    turns = s.turns;
     fresh = s.fresh;
   };
   phase = omega arith;
@@ -168,37 +123,19 @@ keeps_fill R (addr ∷ hex ∷ more) s a =
     let some : is_hex hex ≡ true = (and_parts _ _ (and_parts _ _ (not-false _ a.numbers)).1).0 in
     record {
       sound = record {
-        board = s.board;
-        some_key = s.some_key;
-        key = s.key;
-        fills = all_push (is_fill R.pages) R.fills _ s.fills (and_from _ _ (and_from _ _ some (not-false _ a.within)) refl);
-        lines = s.lines;
-        rise = s.rise;
+        tests = record { fills = all_push (is_fill R.script.pages) R.script.fills _ s.tests.fills (and_from _ _ (and_from _ _ some (not-false _ a.within)) refl); board = s.tests.board; some_key = s.tests.some_key; few_key = s.tests.few_key; lines = s.tests.lines; phases = s.tests.phases; turns = s.tests.turns };
         past = s.past;
-        turns = s.turns;
-        fresh = λ e. in_setup R.place _ (not-false _ a.known) e;
+        fresh = board_is_first R (FillLine (addr ∷ hex ∷ more)) _ refl a.header;
       };
       phase = omega arith;
     }
-  where
-    in_setup : (place : Place) (P : Type 0) → is_in_setup place ≡ true → place ≡ Start → P
-    in_setup Start P e s = absurd cc
-    in_setup Setup P e s = absurd cc
-    in_setup Body P e s = absurd cc
-    in_setup After P e s = absurd cc
 
 keeps_phase : (R : Reading) (words : List Word) → IsSound R → Keeps R (after R (PhaseLine words))
 keeps_phase R words s = record {
   sound = record {
-    board = s.board;
-    some_key = s.some_key;
-    key = s.key;
-    fills = s.fills;
-    lines = s.lines;
-    rise = s.rise;
-    past = later R.phase (R.phase + 1) (omega arith) R.lines s.past;
-    turns = s.turns;
-    fresh = λ e. absurd cc;
+    tests = s.tests;
+    past = later R.phase (R.phase + 1) (omega arith) R.script.lines s.past;
+    fresh = s.fresh;
   };
   phase = omega arith;
 }
@@ -206,63 +143,43 @@ keeps_phase R words s = record {
 keeps_turns : (R : Reading) (words : List Word) → IsSound R → IsAccepted R (TurnsLine words) (after R (TurnsLine words)) → Keeps R (after R (TurnsLine words))
 keeps_turns R words s a = record {
   sound = record {
-    board = s.board;
-    some_key = s.some_key;
-    key = s.key;
-    fills = s.fills;
-    lines = s.lines;
-    rise = s.rise;
+    tests = record { turns = all_push (λ hart. nat_lt hart R.script.harts) R.script.turns (map value words) s.tests.turns (not-false _ a.within); board = s.tests.board; some_key = s.tests.some_key; few_key = s.tests.few_key; fills = s.tests.fills; lines = s.tests.lines; phases = s.tests.phases };
     past = s.past;
-    turns = all_push (λ hart. nat_lt hart R.harts) R.turns (map value words) s.turns (not-false _ a.within);
-    fresh = λ e. absurd cc;
+    fresh = board_is_first R (TurnsLine words) _ refl a.header;
   };
   phase = omega arith;
 }
 
-keeps_end : (R : Reading) (words : List Word) → IsSound R → Keeps R (after R (EndLine words))
-keeps_end R words s = record {
-  sound = record {
-    board = s.board;
-    some_key = s.some_key;
-    key = s.key;
-    fills = s.fills;
-    lines = s.lines;
-    rise = s.rise;
-    past = s.past;
-    turns = s.turns;
-    fresh = λ e. absurd cc;
-  };
-  phase = omega arith;
-}
-
-line_is_within : (R : Reading) (hart : ℕ) (found : Option Line) → R.phase < 2 ^ 20 → (nat_lt hart R.harts && option_map_or (is_line_within R.pages) found false) ≡ true → list_all (is_script_line R.pages R.harts) (script_lines hart R.phase found) ≡ true
+line_is_within : (R : Reading) (hart : ℕ) (found : Option Line) → R.phase < 2 ^ 20 → (nat_lt hart R.script.harts && option_map_or (is_line_within R.script.pages) found false) ≡ true → list_all (is_script_line R.script.pages R.script.harts) (script_lines hart R.phase found) ≡ true
 line_is_within R hart None small e = refl
 line_is_within R hart (Some line) small e =
     let both = and_parts _ _ e in
     and_from _ _ (and_from _ _ (and_from _ _ both.0 (lt-ltb R.phase PHASE_LIMIT small)) both.1) refl
 
-rise_with : (R : Reading) (hart : ℕ) (found : Option Line) → IsSound R → phases_rise_from 0 (R.lines ++ script_lines hart R.phase found) ≡ true
-rise_with R hart None s = rw (append-nil R.lines) s.rise
-rise_with R hart (Some line) s = rise_push 0 R.lines _ (omega arith) s.rise s.past
+rise_with : (R : Reading) (hart : ℕ) (found : Option Line) → IsSound R → phases_rise_from 0 (R.script.lines ++ script_lines hart R.phase found) ≡ true
+rise_with R hart None s = rw (append-nil R.script.lines) s.tests.phases
+rise_with R hart (Some line) s = rise_push 0 R.script.lines _ (omega arith) s.tests.phases s.past
 
-past_with : (R : Reading) (hart : ℕ) (found : Option Line) → IsSound R → list_all (is_of_phase R.phase) (R.lines ++ script_lines hart R.phase found) ≡ true
-past_with R hart None s = rw (append-nil R.lines) s.past
-past_with R hart (Some line) s = all_push (is_of_phase R.phase) R.lines _ s.past (and_from _ _ (le-leb R.phase R.phase (omega arith)) refl)
+past_with : (R : Reading) (hart : ℕ) (found : Option Line) → IsSound R → list_all (is_of_phase R.phase) (R.script.lines ++ script_lines hart R.phase found) ≡ true
+past_with R hart None s = rw (append-nil R.script.lines) s.past
+past_with R hart (Some line) s = all_push (is_of_phase R.phase) R.script.lines _ s.past (and_from _ _ (le-leb R.phase R.phase (omega arith)) refl)
 
 keeps_hart : (R : Reading) (hart word : Word) (words : List Word) → IsSound R → R.phase < 2 ^ 20 → IsAccepted R (HartLine hart word words) (after R (HartLine hart word words)) → Keeps R (after R (HartLine hart word words))
 keeps_hart R hart word words s small a =
     let found : Option Line = line_of word (map value words) in
     record {
       sound = record {
-        board = s.board;
-        some_key = s.some_key;
-        key = s.key;
-        fills = s.fills;
-        lines = all_push (is_script_line R.pages R.harts) R.lines _ s.lines (line_is_within R (value hart) found small (not-false _ a.within));
-        rise = rise_with R (value hart) found s;
+        tests = record {
+          lines = all_push (is_script_line R.script.pages R.script.harts) R.script.lines _ s.tests.lines (line_is_within R (value hart) found small (not-false _ a.within));
+          phases = rise_with R (value hart) found s;
+          board = s.tests.board;
+          some_key = s.tests.some_key;
+          few_key = s.tests.few_key;
+          fills = s.tests.fills;
+          turns = s.tests.turns;
+        };
         past = past_with R (value hart) found s;
-        turns = s.turns;
-        fresh = λ e. absurd cc;
+        fresh = board_is_first R (HartLine hart word words) _ refl a.header;
       };
       phase = omega arith;
     }
@@ -273,7 +190,7 @@ keeps_after R (KeyLine words) s small a = keeps_key R words s a
 keeps_after R (FillLine words) s small a = keeps_fill R words s a
 keeps_after R (PhaseLine words) s small a = keeps_phase R words s
 keeps_after R (TurnsLine words) s small a = keeps_turns R words s a
-keeps_after R (EndLine words) s small a = keeps_end R words s
+keeps_after R (EndLine words) s small a = record { sound = record { tests = s.tests; past = s.past; fresh = s.fresh }; phase = omega arith }
 keeps_after R (HartAlone hart) s small a = record { sound = s; phase = omega arith }
 keeps_after R (HartLine hart word words) s small a = keeps_hart R hart word words s small a
 keeps_after R Unknown s small a = record { sound = s; phase = omega arith }

@@ -1,4 +1,3 @@
-mod GrammarRows
 pub mod AtTheEnd
 pub mod Beginning
 pub mod Members
@@ -21,6 +20,7 @@ pub mod FrameProofs
 pub mod LawfulProofs
 pub mod ToldProofs
 pub mod OpeningStandsProofs
+mod FrontProofs
 pub mod GrammarLimits
 pub mod StoreLawProofs
 pub mod BoardRuleProofs

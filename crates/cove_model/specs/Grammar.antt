@@ -1,6 +1,6 @@
 -- The grammar of a script, over the list of its lines: what they say, or the first faulty line with the first
 -- kind of fault that applies to it.
-use Rattle.std.specs.Prelude.{ℕ, ◌+◌, ◌*◌, Bool, true, false, ◌==◌, ◌&&◌, ◌||◌, not, nat_lt, nat_le, min, if◌then◌else◌, List, [], ◌∷◌, ◌++◌, length, map, replicate, slice_index, codes, Option, Some, None, is_some, is_none, unwrap_or, Result, Ok, Err}
+use Rattle.std.specs.Prelude.{ℕ, ◌+◌, ◌*◌, Bool, true, false, ◌==◌, ◌&&◌, ◌||◌, not, nat_lt, nat_le, if◌then◌else◌, List, [], ◌∷◌, ◌++◌, length, map, replicate, slice_index, codes, Option, Some, None, is_some, is_none, unwrap_or, Result, Ok, Err}
 use Rattle.std.specs.List.{list_all}
 use Rattle.std.specs.Option.{option_map, option_map_or}
 use Rattle.std.specs.Str.{bytes_eq}
@@ -16,9 +16,6 @@ use Rattle.cove_base.specs.CallWords.{is_call_word, call_of}
 use Rattle.cove_base.specs.Numbers.{number_of, hex_of}
 use Rattle.cove_base.specs.Scripts.{ScriptValue, is_line_within}
 use Rattle.cove_base.specs.Text.{text_lines, text_words}
-use Rattle.cove_model.specs.declared.readings.Place.{Place}
-use Rattle.cove_model.specs.declared.readings.Place.TheVariants.{Start, Setup, Body, After}
-use Rattle.cove_model.specs.declared.readings.Reading.{Reading}
 
 -- ---- words
 
@@ -105,21 +102,34 @@ content_of first words =
     else (if bytes_eq first (codes "end") then EndLine words
     else (if is_hart_word first then hart_content first words else Unknown))))))
 
+-- ---- what the lines so far have said
+
+-- which lines have been: the board's, the key's, one of the body and the line `end`; the phase of the next line
+-- of a hart, and the script that the lines make
+pub record Reading : Type 0 where
+  pub has_board : Bool
+  pub has_key : Bool
+  pub has_body : Bool
+  pub has_end : Bool
+  pub phase : ℕ
+  pub script : ScriptValue
+
+-- a key of 48 zero bytes, where none is given
+abbrev pub default_key : List ℕ
+default_key = replicate 48 0
+
+-- before the first line
+abbrev pub opening_reading : Reading
+opening_reading = record {
+  has_board = false;
+  has_key = false;
+  has_body = false;
+  has_end = false;
+  phase = 0;
+  script = record { pages = 1; harts = 1; files = 0; key = default_key; fills = []; lines = []; turns = [] };
+}
+
 -- ---- the faults of a line, each by its form
-
-abbrev pub is_before_board : Place → Bool
-is_before_board Start = true
-is_before_board _ = false
-
-abbrev pub is_in_setup : Place → Bool
-is_in_setup Setup = true
-is_in_setup _ = false
-
--- where the lines of the body and the line `end` may stand
-abbrev pub may_be_body : Place → Bool
-may_be_body Setup = true
-may_be_body Body = true
-may_be_body _ = false
 
 abbrev pub is_header : Content → Bool
 is_header (BoardLine words) = true
@@ -127,18 +137,18 @@ is_header _ = false
 
 -- BadHeader: the first content line is not the board's
 abbrev pub is_bad_header : Reading → Content → Bool
-is_bad_header R content = is_before_board R.place && not (is_header content)
+is_bad_header R content = not R.has_board && not (is_header content)
 
 -- UnknownWord: the first word is none of the table or not allowed here, or a hart has no such word
 abbrev pub is_unknown : Reading → Content → Bool
-is_unknown R (BoardLine words) = not (is_before_board R.place)
-is_unknown R (KeyLine words) = not (is_in_setup R.place) || R.has_key
-is_unknown R (FillLine words) = not (is_in_setup R.place)
-is_unknown R (PhaseLine words) = not (may_be_body R.place)
-is_unknown R (TurnsLine words) = not (may_be_body R.place)
-is_unknown R (EndLine words) = not (may_be_body R.place)
-is_unknown R (HartAlone hart) = not (may_be_body R.place)
-is_unknown R (HartLine hart word words) = not (may_be_body R.place) || not (is_line_word word)
+is_unknown R (BoardLine words) = R.has_board
+is_unknown R (KeyLine words) = R.has_body || R.has_key
+is_unknown R (FillLine words) = R.has_body
+is_unknown R (PhaseLine words) = R.has_end
+is_unknown R (TurnsLine words) = R.has_end
+is_unknown R (EndLine words) = R.has_end
+is_unknown R (HartAlone hart) = R.has_end
+is_unknown R (HartLine hart word words) = R.has_end || not (is_line_word word)
 is_unknown R Unknown = true
 
 abbrev pub are_numbers : List Word → Bool
@@ -196,13 +206,13 @@ is_fill_within pages _ = false
 abbrev pub is_out_of_board : Reading → Content → Bool
 is_out_of_board R (BoardLine words) = not (is_board (map value words))
 is_out_of_board R (KeyLine words) = not (is_key words)
-is_out_of_board R (FillLine words) = not (is_fill_within R.pages words)
+is_out_of_board R (FillLine words) = not (is_fill_within R.script.pages words)
 is_out_of_board R (PhaseLine words) = false
-is_out_of_board R (TurnsLine words) = not (list_all (λ hart. nat_lt hart R.harts) (map value words))
+is_out_of_board R (TurnsLine words) = not (list_all (λ hart. nat_lt hart R.script.harts) (map value words))
 is_out_of_board R (EndLine words) = false
 is_out_of_board R (HartAlone hart) = false
 is_out_of_board R (HartLine hart word words) =
-    not (nat_lt (value hart) R.harts && option_map_or (is_line_within R.pages) (line_of word (map value words)) false)
+    not (nat_lt (value hart) R.script.harts && option_map_or (is_line_within R.script.pages) (line_of word (map value words)) false)
 is_out_of_board R Unknown = false
 
 -- ---- what a line without fault says
@@ -220,18 +230,19 @@ abbrev pub script_lines : (hart phase : ℕ) → Option Line → List ScriptLine
 script_lines hart phase None = []
 script_lines hart phase (Some line) = record { hart = record { 0 = hart }; phase = phase; line = line } ∷ []
 
+-- what has been said after a line; the body begins with the first line of it, or with the line `end`
 abbrev pub after : Reading → Content → Reading
 after R (BoardLine words) = let sizes : List ℕ = map value words in
-    record R { place = Setup; pages = slice_index sizes 0; harts = slice_index sizes 1; files = slice_index sizes 2 }
-after R (KeyLine words) = record R { has_key = true; key = key_of words }
-after R (FillLine words) = record R { fills = R.fills ++ fill_of words }
-after R (PhaseLine words) = record R { place = Body; phase = R.phase + 1 }
-after R (TurnsLine words) = record R { place = Body; turns = R.turns ++ map value words }
-after R (EndLine words) = record R { place = After }
+    record R { has_board = true; script = record R.script { pages = slice_index sizes 0; harts = slice_index sizes 1; files = slice_index sizes 2 } }
+after R (KeyLine words) = record R { has_key = true; script = record R.script { key = key_of words } }
+after R (FillLine words) = record R { script = record R.script { fills = R.script.fills ++ fill_of words } }
+after R (PhaseLine words) = record R { has_body = true; phase = R.phase + 1 }
+after R (TurnsLine words) = record R { has_body = true; script = record R.script { turns = R.script.turns ++ map value words } }
+after R (EndLine words) = record R { has_body = true; has_end = true }
 after R (HartAlone hart) = R
 after R (HartLine hart word words) = record R {
-  place = Body;
-  lines = R.lines ++ script_lines (value hart) R.phase (line_of word (map value words));
+  has_body = true;
+  script = record R.script { lines = R.script.lines ++ script_lines (value hart) R.phase (line_of word (map value words)) };
 }
 after R Unknown = R
 
@@ -255,41 +266,6 @@ words_read R (first ∷ words) = if is_remark first then Ok R else judged R (con
 unfoldable pub line_read : Reading → (line : List ℕ) → Result Reading Kind
 line_read R line = if is_ascii line then words_read R (text_words line) else Err NotAscii
 
--- a key of 48 zero bytes, where none is given
-abbrev pub default_key : List ℕ
-default_key = replicate 48 0
-
--- before the first line
-abbrev pub opening_reading : Reading
-opening_reading = record {
-  place = Start;
-  has_key = false;
-  phase = 0;
-  pages = 1;
-  harts = 1;
-  files = 0;
-  key = default_key;
-  fills = [];
-  lines = [];
-  turns = [];
-}
-
--- the script that the lines made
-abbrev pub script_in : Reading → ScriptValue
-script_in R = record {
-  pages = R.pages;
-  harts = R.harts;
-  files = R.files;
-  key = R.key;
-  fills = R.fills;
-  lines = R.lines;
-  turns = R.turns;
-}
-
-abbrev pub has_ended : Place → Bool
-has_ended After = true
-has_ended _ = false
-
 abbrev pub fault_at : (number : ℕ) → Kind → ScriptFault
 fault_at number kind = record { line = number; kind = kind }
 
@@ -300,27 +276,10 @@ then_read number (Err kind) goes_on = Err (fault_at number kind)
 
 -- the lines from a number on, to the last; NoEnd is at the line after it
 abbrev pub lines_read : Reading → (number : ℕ) → List (List ℕ) → Result ScriptValue ScriptFault
-lines_read R number [] = if has_ended R.place then Ok (script_in R) else Err (fault_at number NoEnd)
+lines_read R number [] = if R.has_end then Ok R.script else Err (fault_at number NoEnd)
 lines_read R number (line ∷ lines) = then_read number (line_read R line) (λ S. lines_read S (number + 1) lines)
 
 -- the script of a text, or its first fault; a text longer than the limit has it at line 0
 unfoldable pub script_of : (limit : ℕ) → (text : List ℕ) → Result ScriptValue ScriptFault
 script_of limit text =
     if nat_lt limit (length text) then Err (fault_at 0 TooLong) else lines_read opening_reading 1 (text_lines text)
-
--- ---- a script in front of other text
-
--- the script of the lines from a place of the text on, up to the line `end`, and the place after that line;
--- a line takes its bytes and the LF after them
-abbrev pub front_lines_read : (size : ℕ) → Reading → (number place : ℕ) → List (List ℕ) → Result (ScriptValue × ℕ) ScriptFault
-front_lines_read size R number place [] = Err (fault_at number NoEnd)
-front_lines_read size R number place (line ∷ lines) =
-    let past : ℕ = min (place + length line + 1) size in
-    then_read number (line_read R line) (λ S.
-    if has_ended S.place then Ok (script_in S, past) else front_lines_read size S (number + 1) past lines)
-
--- the script in front of a text, and the place after it, or its first fault
-unfoldable pub front_of : (limit : ℕ) → (text : List ℕ) → Result (ScriptValue × ℕ) ScriptFault
-front_of limit text =
-    if nat_lt limit (length text) then Err (fault_at 0 TooLong)
-    else front_lines_read (length text) opening_reading 1 0 (text_lines text)

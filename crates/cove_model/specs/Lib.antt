@@ -18,6 +18,9 @@ pub mod Reports
 pub mod Examples
 pub mod Commands
 pub mod Grammar
+pub mod Fronts
+pub mod ScriptExamples
+pub mod RefusedLines
 pub mod WordsStand
 pub mod LawfulStores
 pub mod WordLaws

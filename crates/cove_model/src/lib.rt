@@ -6,8 +6,9 @@
 mod examples;
 mod laws;
 mod promises;
-mod readings;
 mod rules;
+mod script_examples;
+mod script_laws;
 mod standing;
 
 pub use examples::{
@@ -21,6 +22,7 @@ pub use laws::{
     unbuilt_calls_are_refused,
 };
 pub use promises::{first_failing_checks_answer, host_reads_show_host_memory};
-pub use readings::{Place, Reading};
 pub use rules::{boundary_law, store_law};
+pub use script_examples::{refused_lines, worked_scripts};
+pub use script_laws::fronts_are_scripts;
 pub use standing::{frames_law, lawful_law, telling_law, words_law};

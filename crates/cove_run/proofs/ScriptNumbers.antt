@@ -18,8 +18,7 @@ use Rattle.cove_base.specs.declared.scripts.Line.{Line}
 use Rattle.cove_base.specs.declared.scripts.Line.TheVariants as lines
 use Rattle.cove_base.specs.declared.scripts.ScriptLine.{ScriptLine}
 use Rattle.cove_journal.specs.Forms.{is_byte, is_word}
-use Rattle.cove_model.specs.Grammar.{BoardLine, Content, EndLine, FillLine, HartAlone, HartLine, KeyLine, PhaseLine, TurnsLine, Unknown, Word, after, bytes_of, content_of, fault_at, fill_of, has_ended, is_ascii, is_remark, judged, line_of, line_read, lines_read, load_of, opening_reading, script_in, script_lines, script_of, store_of, then_read, value, words_read}
-use Rattle.cove_model.specs.declared.readings.Reading.{Reading}
+use Rattle.cove_model.specs.Grammar.{BoardLine, Content, EndLine, FillLine, HartAlone, HartLine, KeyLine, PhaseLine, Reading, TurnsLine, Unknown, Word, after, bytes_of, content_of, fault_at, fill_of, is_ascii, is_remark, judged, line_of, line_read, lines_read, load_of, opening_reading, script_lines, script_of, store_of, then_read, value, words_read}
 use Rattle.cove_model.proofs.GrammarLimits.{IsSound, Keeps, accepted, line_keeps, opening_is_sound, sound_is_within}
 use Rattle.cove_journal.proofs.SizesRead.{call_fits, call_of_fits, number_fits}
 use Rattle.cove_script.proofs.LoopOverLines.{text_lines_few}
@@ -106,8 +105,8 @@ abbrev pub fill_fits : Fill → Bool
 fill_fits fill = list_all is_byte fill.bytes
 
 record Fit (R : Reading) : Type 0 where
-  pub lines : list_all script_line_fits R.lines ≡ true
-  pub fills : list_all fill_fits R.fills ≡ true
+  pub lines : list_all script_line_fits R.script.lines ≡ true
+  pub fills : list_all fill_fits R.script.fills ≡ true
 
 opening_fits : Fit opening_reading
 opening_fits = record { lines = refl; fills = refl }
@@ -127,13 +126,13 @@ lines_fit hart phase (Some line) e = and_from _ _ e refl
 after_fits : (R : Reading) (content : Content) → Fit R → Fit (after R content)
 after_fits R (BoardLine words) fit = record { lines = fit.lines; fills = fit.fills }
 after_fits R (KeyLine words) fit = record { lines = fit.lines; fills = fit.fills }
-after_fits R (FillLine words) fit = record { lines = fit.lines; fills = all_push fill_fits R.fills (fill_of words) fit.fills (fills_fit words) }
+after_fits R (FillLine words) fit = record { lines = fit.lines; fills = all_push fill_fits R.script.fills (fill_of words) fit.fills (fills_fit words) }
 after_fits R (PhaseLine words) fit = record { lines = fit.lines; fills = fit.fills }
 after_fits R (TurnsLine words) fit = record { lines = fit.lines; fills = fit.fills }
 after_fits R (EndLine words) fit = record { lines = fit.lines; fills = fit.fills }
 after_fits R (HartAlone hart) fit = fit
 after_fits R (HartLine hart word words) fit = record {
-  lines = all_push script_line_fits R.lines (script_lines (value hart) R.phase (line_of word (map value words))) fit.lines
+  lines = all_push script_line_fits R.script.lines (script_lines (value hart) R.phase (line_of word (map value words))) fit.lines
       (lines_fit (value hart) R.phase (line_of word (map value words)) (line_of_fits word (map value words) (values_fit words)));
   fills = fit.fills;
 }
@@ -179,11 +178,11 @@ pub record IsMachineScript (script : ScriptValue) : Type 0 where
   pub fills : list_all fill_fits script.fills ≡ true
 
 finished : (R : Reading) (number : ℕ) (script : ScriptValue) → IsSound R → Fit R → lines_read R number [] ≡ Ok script → IsMachineScript script
-finished R number script sound fit e = go (has_ended R.place) e
+finished R number script sound fit e = go (R.has_end) e
   where
-    go : (b : Bool) → cond b (Ok (script_in R)) (Err (fault_at number NoEnd)) ≡ Ok script → IsMachineScript script
+    go : (b : Bool) → cond b (Ok (R.script)) (Err (fault_at number NoEnd)) ≡ Ok script → IsMachineScript script
     go true same =
-        let is : script_in R ≡ script = cc in
+        let is : R.script ≡ script = cc in
         let P : ScriptValue → Type 0 = λ s. IsMachineScript s in
         subst P is (record { within = sound_is_within R sound; lines = fit.lines; fills = fit.fills })
     go false same = absurd cc

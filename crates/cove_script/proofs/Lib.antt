@@ -1,5 +1,4 @@
 pub mod ActionsReadBack
-pub mod FormsReadBack
 pub mod JoinedText
 pub mod LoopOverLines
 pub mod NumberWords

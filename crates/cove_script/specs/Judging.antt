@@ -3,8 +3,7 @@ use Rattle.std.specs.Prelude.{◌≡◌, ℕ, List, map, Result, Ok, Err}
 use Rattle.std.specs.Borrow.{Bor}
 use Rattle.cove_base.specs.declared.faults.Kind.{Kind}
 use Rattle.cove_base.specs.declared.faults.ScriptFault.{ScriptFault}
-use Rattle.cove_model.specs.Grammar.{fault_at}
-use Rattle.cove_model.specs.declared.readings.Reading.{Reading}
+use Rattle.cove_model.specs.Grammar.{Reading, fault_at}
 use Rattle.cove_script.specs.declared.faults.LineFault.{LineFault}
 use Rattle.cove_script.specs.declared.faults.LineFault.TheVariants.{Refused, Memory}
 use Rattle.cove_script.specs.declared.faults.ParseError.{ParseError}

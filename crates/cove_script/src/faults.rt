@@ -1,5 +1,5 @@
 ghost use Rattle.std.specs.Prelude.{◌≡◌};
-ghost use Rattle.cove_script.specs.declared.faults.LineFault.TheVariants.{Refused, Memory};
+ghost use Rattle.cove_script.specs.declared.faults.LineFault.TheVariants.{Memory};
 ghost use Rattle.cove_script.specs.declared.faults.ParseError.TheVariants as errors;
 
 use cove_base::{Kind, NoMemory, ScriptFault};
@@ -53,13 +53,5 @@ impl From<NoMemory> for LineFault {
 
     fn from(_error: NoMemory) -> LineFault {
         LineFault::Memory
-    }
-}
-
-impl From<Kind> for LineFault {
-    ghost from_gives = { λ kind e. e ≡ Refused kind };
-
-    fn from(kind: Kind) -> LineFault {
-        LineFault::Refused(kind)
     }
 }

@@ -1,4 +1,4 @@
-ghost use Rattle.std.specs.Prelude.{◌<◌, ◌≡◌, ◌^◌, ◌++◌, All, IsTrue, OnOk, nat_lt};
+ghost use Rattle.std.specs.Prelude.{◌<◌, ◌≡◌, ◌+◌, ◌*◌, ◌^◌, ◌∷◌, ◌++◌, All, IsTrue, OnOk, false, nat_le, nat_lt};
 ghost use Rattle.std.specs.List.{list_all};
 ghost use Rattle.cove_base.specs.Scripts.{is_line_within};
 ghost use Rattle.cove_model.specs.Grammar.{judged};
@@ -6,12 +6,12 @@ ghost use Rattle.cove_model.specs.Grammar.{BoardLine, KeyLine, FillLine, PhaseLi
 ghost use Rattle.cove_script.specs.Judging.{Judged, words_of};
 
 use crate::faults::LineFault;
+use crate::readings::Reading;
 use crate::words::{hex_bytes, is_hart_word, line_of, number_in, put_numbers};
 use cove_base::{
     FILE_LIMIT, Fill, HART_LIMIT, HartId, KEY_LIMIT, Kind, Line, NoMemory, PAGE_LIMIT, ScriptLine,
     Turns,
 };
-use cove_model::{Place, Reading};
 use std::alloc::Global;
 
 /// `board PAGES HARTS FILES`
@@ -23,7 +23,7 @@ pub fn read_board(
 ) -> Result<(), LineFault>
     ensures { Judged result reading.new (judged reading.old (BoardLine (words_of words.now))) }
 {
-    if reading.place != Place::Start {
+    if reading.has_board {
         return Err(LineFault::Refused(Kind::UnknownWord));
     }
     if !put_numbers(numbers, words)? {
@@ -41,7 +41,7 @@ pub fn read_board(
     {
         return Err(LineFault::Refused(Kind::OutOfBoard));
     }
-    reading.place = Place::Setup;
+    reading.has_board = true;
     reading.pages = pages as u32;
     reading.harts = harts as u8;
     reading.files = files as u8;
@@ -56,12 +56,10 @@ pub fn read_key(
     words: &[&[u8]],
     numbers: &mut Vec<u64>,
 ) -> Result<(), LineFault>
+    requires { IsTrue reading.old.has_board }
     ensures { Judged result reading.new (judged reading.old (KeyLine (words_of words.now))) }
 {
-    if reading.place == Place::Start {
-        return Err(LineFault::Refused(Kind::BadHeader));
-    }
-    if reading.place != Place::Setup || reading.has_key {
+    if reading.has_body || reading.has_key {
         return Err(LineFault::Refused(Kind::UnknownWord));
     }
     let Some((hex, more)) = words.split_first() else {
@@ -84,30 +82,32 @@ pub fn read_key(
     Ok(())
 }
 
-/// `fill ADDR HEX`
+// Whether so many bytes at an address end within the memory.
+fn ends_within(pages: u32, addr: u64, len: usize) -> bool
+    requires { pages < 2 ^ 20 }
+    ensures { result ≡ nat_le (addr + len) (4096 * pages) }
+{
+    let size = 4096 * u64::from(pages);
+    addr <= size && len as u64 <= size - addr
+}
+
+// The words of a fill.
 #[tactic(auto, unfolding(cove_model::specs::Grammar::judged))]
-pub fn read_fill(
+fn read_filled(
     alloc: Global,
     reading: &mut Reading,
-    words: &[&[u8]],
+    addr: &[u8],
+    hex: &[u8],
+    more: &[&[u8]],
     numbers: &mut Vec<u64>,
 ) -> Result<(), LineFault>
-    requires { reading.old.pages < 2 ^ 20 }
-    ensures { Judged result reading.new (judged reading.old (FillLine (words_of words.now))) }
+    requires board { IsTrue reading.old.has_board }
+    requires setup { reading.old.has_body ≡ false }
+    requires pages { reading.old.script.pages < 2 ^ 20 }
+    ensures { Judged result reading.new (judged reading.old (FillLine (addr.now ∷ hex.now ∷ words_of more.now))) }
 {
-    match reading.place {
-        Place::Start => return Err(LineFault::Refused(Kind::BadHeader)),
-        Place::Body | Place::After => return Err(LineFault::Refused(Kind::UnknownWord)),
-        Place::Setup => {}
-    }
-    let Some((addr, more)) = words.split_first() else {
-        return Err(LineFault::Refused(Kind::WrongCount));
-    };
     let Some(addr) = number_in(addr) else {
         return Err(LineFault::Refused(Kind::BadNumber));
-    };
-    let Some((hex, more)) = more.split_first() else {
-        return Err(LineFault::Refused(Kind::WrongCount));
     };
     let Some(bytes) = hex_bytes(alloc, hex)? else {
         return Err(LineFault::Refused(Kind::BadNumber));
@@ -118,13 +118,36 @@ pub fn read_fill(
     if !more.is_empty() {
         return Err(LineFault::Refused(Kind::WrongCount));
     }
-    let size = 4096 * u64::from(reading.pages);
-    let len = bytes.len() as u64;
-    if addr > size || len > size - addr {
+    if !ends_within(reading.pages, addr, bytes.len()) {
         return Err(LineFault::Refused(Kind::OutOfBoard));
     }
     reading.fills.push(Fill { addr, bytes })?;
     Ok(())
+}
+
+/// `fill ADDR HEX`
+#[tactic(auto, unfolding(cove_model::specs::Grammar::judged))]
+pub fn read_fill(
+    alloc: Global,
+    reading: &mut Reading,
+    words: &[&[u8]],
+    numbers: &mut Vec<u64>,
+) -> Result<(), LineFault>
+    requires board { IsTrue reading.old.has_board }
+    requires pages { reading.old.script.pages < 2 ^ 20 }
+    ensures { Judged result reading.new (judged reading.old (FillLine (words_of words.now))) }
+{
+    if reading.has_body {
+        return Err(LineFault::Refused(Kind::UnknownWord));
+    }
+    match words {
+        [] => Err(LineFault::Refused(Kind::WrongCount)),
+        [addr] => Err(LineFault::Refused(match number_in(addr) {
+            Some(_) => Kind::WrongCount,
+            None => Kind::BadNumber,
+        })),
+        [addr, hex, more @ ..] => read_filled(alloc, reading, addr, hex, more, numbers),
+    }
 }
 
 /// `phase`
@@ -134,13 +157,12 @@ pub fn read_phase(
     words: &[&[u8]],
     numbers: &mut Vec<u64>,
 ) -> Result<(), LineFault>
-    requires { reading.old.phase < 2 ^ 20 }
+    requires board { IsTrue reading.old.has_board }
+    requires phase { reading.old.phase < 2 ^ 20 }
     ensures { Judged result reading.new (judged reading.old (PhaseLine (words_of words.now))) }
 {
-    match reading.place {
-        Place::Start => return Err(LineFault::Refused(Kind::BadHeader)),
-        Place::After => return Err(LineFault::Refused(Kind::UnknownWord)),
-        Place::Setup | Place::Body => {}
+    if reading.has_end {
+        return Err(LineFault::Refused(Kind::UnknownWord));
     }
     if !put_numbers(numbers, words)? {
         return Err(LineFault::Refused(Kind::BadNumber));
@@ -148,7 +170,7 @@ pub fn read_phase(
     if !words.is_empty() {
         return Err(LineFault::Refused(Kind::WrongCount));
     }
-    reading.place = Place::Body;
+    reading.has_body = true;
     reading.phase += 1;
     Ok(())
 }
@@ -179,12 +201,11 @@ pub fn read_turns(
     words: &[&[u8]],
     numbers: &mut Vec<u64>,
 ) -> Result<(), LineFault>
+    requires { IsTrue reading.old.has_board }
     ensures { Judged result reading.new (judged reading.old (TurnsLine (words_of words.now))) }
 {
-    match reading.place {
-        Place::Start => return Err(LineFault::Refused(Kind::BadHeader)),
-        Place::After => return Err(LineFault::Refused(Kind::UnknownWord)),
-        Place::Setup | Place::Body => {}
+    if reading.has_end {
+        return Err(LineFault::Refused(Kind::UnknownWord));
     }
     if !put_numbers(numbers, words)? {
         return Err(LineFault::Refused(Kind::BadNumber));
@@ -195,7 +216,7 @@ pub fn read_turns(
     if !are_harts(numbers, reading.harts) {
         return Err(LineFault::Refused(Kind::OutOfBoard));
     }
-    reading.place = Place::Body;
+    reading.has_body = true;
     put_turns(&mut reading.turns, numbers)?;
     Ok(())
 }
@@ -207,12 +228,11 @@ pub fn read_end(
     words: &[&[u8]],
     numbers: &mut Vec<u64>,
 ) -> Result<(), LineFault>
+    requires { IsTrue reading.old.has_board }
     ensures { Judged result reading.new (judged reading.old (EndLine (words_of words.now))) }
 {
-    match reading.place {
-        Place::Start => return Err(LineFault::Refused(Kind::BadHeader)),
-        Place::After => return Err(LineFault::Refused(Kind::UnknownWord)),
-        Place::Setup | Place::Body => {}
+    if reading.has_end {
+        return Err(LineFault::Refused(Kind::UnknownWord));
     }
     if !put_numbers(numbers, words)? {
         return Err(LineFault::Refused(Kind::BadNumber));
@@ -220,19 +240,19 @@ pub fn read_end(
     if !words.is_empty() {
         return Err(LineFault::Refused(Kind::WrongCount));
     }
-    reading.place = Place::After;
+    reading.has_body = true;
+    reading.has_end = true;
     Ok(())
 }
 
 /// A hart without a word after it.
 #[tactic(auto, unfolding(cove_model::specs::Grammar::judged))]
 pub fn read_hart_alone(reading: &mut Reading, hart: &[u8]) -> Result<(), LineFault>
+    requires { IsTrue reading.old.has_board }
     ensures { Judged result reading.new (judged reading.old (HartAlone hart.now)) }
 {
-    match reading.place {
-        Place::Start => return Err(LineFault::Refused(Kind::BadHeader)),
-        Place::After => return Err(LineFault::Refused(Kind::UnknownWord)),
-        Place::Setup | Place::Body => {}
+    if reading.has_end {
+        return Err(LineFault::Refused(Kind::UnknownWord));
     }
     if number_in(hart).is_none() {
         return Err(LineFault::Refused(Kind::BadNumber));
@@ -262,13 +282,12 @@ pub fn read_hart_line(
     words: &[&[u8]],
     numbers: &mut Vec<u64>,
 ) -> Result<(), LineFault>
-    requires { reading.old.pages < 2 ^ 20 }
+    requires board { IsTrue reading.old.has_board }
+    requires pages { reading.old.script.pages < 2 ^ 20 }
     ensures { Judged result reading.new (judged reading.old (HartLine hart.now word.now (words_of words.now))) }
 {
-    match reading.place {
-        Place::Start => return Err(LineFault::Refused(Kind::BadHeader)),
-        Place::After => return Err(LineFault::Refused(Kind::UnknownWord)),
-        Place::Setup | Place::Body => {}
+    if reading.has_end {
+        return Err(LineFault::Refused(Kind::UnknownWord));
     }
     if !is_hart_word(word) {
         return Err(LineFault::Refused(Kind::UnknownWord));
@@ -285,7 +304,7 @@ pub fn read_hart_line(
     if hart >= u64::from(reading.harts) || !is_within(reading.pages, &line) {
         return Err(LineFault::Refused(Kind::OutOfBoard));
     }
-    reading.place = Place::Body;
+    reading.has_body = true;
     reading.lines.push(ScriptLine {
         hart: HartId(hart as u8),
         phase: reading.phase,

@@ -12,6 +12,7 @@ mod lines;
 mod parsing;
 mod printing;
 mod read_back;
+mod readings;
 mod words;
 
 pub use cove_base::{Kind, ScriptFault};

@@ -1,4 +1,4 @@
-ghost use Rattle.std.specs.Prelude.{◌<◌, ◌≡◌, ◌^◌};
+ghost use Rattle.std.specs.Prelude.{◌<◌, ◌≡◌, ◌^◌, IsTrue};
 ghost use Rattle.cove_model.specs.Grammar.{content_of, is_ascii, is_hart_word, is_remark, judged, line_read, words_read, Unknown};
 ghost use Rattle.cove_script.specs.Judging.{Judged, words_of};
 
@@ -7,9 +7,9 @@ use crate::forms::{
     read_board, read_end, read_fill, read_hart_alone, read_hart_line, read_key, read_phase,
     read_turns,
 };
+use crate::readings::Reading;
 use crate::words::put_words;
 use cove_base::Kind;
-use cove_model::{Place, Reading};
 use std::alloc::Global;
 
 // A line with this first word says nothing.
@@ -35,13 +35,11 @@ fn is_ascii(line: &[u8]) -> bool
 
 // A first word that begins no line.
 #[tactic(auto, unfolding(cove_model::specs::Grammar::judged))]
-fn read_unknown(reading: &Reading) -> Result<(), LineFault>
-    ensures { Judged result reading.now (judged reading.now Unknown) }
+fn read_unknown(_reading: &Reading) -> Result<(), LineFault>
+    requires { IsTrue _reading.now.has_board }
+    ensures { Judged result _reading.now (judged _reading.now Unknown) }
 {
-    match reading.place {
-        Place::Start => Err(LineFault::Refused(Kind::BadHeader)),
-        _ => Err(LineFault::Refused(Kind::UnknownWord)),
-    }
+    Err(LineFault::Refused(Kind::UnknownWord))
 }
 
 // A line that says something.
@@ -53,12 +51,15 @@ fn read_content(
     words: &[&[u8]],
     numbers: &mut Vec<u64>,
 ) -> Result<(), LineFault>
-    requires pages { reading.old.pages < 2 ^ 20 }
+    requires pages { reading.old.script.pages < 2 ^ 20 }
     requires phase { reading.old.phase < 2 ^ 20 }
     ensures { Judged result reading.new (judged reading.old (content_of first.now (words_of words.now))) }
 {
     if first == b"board".as_slice() {
         return read_board(reading, words, numbers);
+    }
+    if !reading.has_board {
+        return Err(LineFault::Refused(Kind::BadHeader));
     }
     if first == b"key".as_slice() {
         return read_key(alloc, reading, words, numbers);
@@ -92,7 +93,7 @@ fn read_words(
     words: &[&[u8]],
     numbers: &mut Vec<u64>,
 ) -> Result<(), LineFault>
-    requires pages { reading.old.pages < 2 ^ 20 }
+    requires pages { reading.old.script.pages < 2 ^ 20 }
     requires phase { reading.old.phase < 2 ^ 20 }
     ensures { Judged result reading.new (words_read reading.old (words_of words.now)) }
 {
@@ -116,7 +117,7 @@ pub fn read_line<'a>(
     words: &mut Vec<&'a [u8]>,
     numbers: &mut Vec<u64>,
 ) -> Result<(), LineFault>
-    requires pages { reading.old.pages < 2 ^ 20 }
+    requires pages { reading.old.script.pages < 2 ^ 20 }
     requires phase { reading.old.phase < 2 ^ 20 }
     ensures { Judged result reading.new (line_read reading.old line.now) }
 {

@@ -6,16 +6,6 @@ use cove_base::{Bytes, Fill, Line, NoMemory, Script, ScriptLine};
 use cove_text::{LINE_LIMIT, LineBuf, put_call, put_decimal, put_hex, put_number};
 use std::alloc::Global;
 
-// Appends bytes to the text.
-fn put_text(out: &mut Bytes, text: &[u8]) -> Result<(), NoMemory>
-    ensures { OnOk result (out.new ≡ out.old ++ text.now) }
-{
-    for byte in text {
-        out.push(*byte)?;
-    }
-    Ok(())
-}
-
 // Appends bytes in hex.
 fn put_all_hex(out: &mut Bytes, line: &mut LineBuf, bytes: &[u8]) -> Result<(), NoMemory>
     ensures { OnOk result (out.new ≡ out.old ++ hex_text bytes.now) }
@@ -23,7 +13,7 @@ fn put_all_hex(out: &mut Bytes, line: &mut LineBuf, bytes: &[u8]) -> Result<(), 
     for byte in bytes {
         line.clear();
         put_hex(line, &[*byte]);
-        put_text(out, line.as_slice())?;
+        out.extend(line.as_slice())?;
     }
     Ok(())
 }
@@ -97,9 +87,9 @@ fn put_hart_line(line: &mut LineBuf, script_line: &ScriptLine)
 fn put_key(out: &mut Bytes, line: &mut LineBuf, key: &[u8]) -> Result<(), NoMemory>
     ensures { OnOk result (out.new ≡ out.old ++ line_text (key_words key.now)) }
 {
-    put_text(out, b"key ")?;
+    out.extend(b"key ")?;
     put_all_hex(out, line, key)?;
-    put_text(out, b"\n")
+    out.extend(b"\n")
 }
 
 // The line of a fill.
@@ -110,9 +100,9 @@ fn put_fill(out: &mut Bytes, line: &mut LineBuf, fill: &Fill) -> Result<(), NoMe
     line.put_bytes(b"fill");
     put_spaced_number(line, fill.addr);
     line.push(b' ');
-    put_text(out, line.as_slice())?;
+    out.extend(line.as_slice())?;
     put_all_hex(out, line, fill.bytes.as_slice())?;
-    put_text(out, b"\n")
+    out.extend(b"\n")
 }
 
 // The lines of the fills.
@@ -130,7 +120,7 @@ fn put_phases(out: &mut Bytes, count: u32) -> Result<(), NoMemory>
     ensures { OnOk result (out.new ≡ out.old ++ lines_text (replicate count phase_words)) }
 {
     for _ in 0..count {
-        put_text(out, b"phase\n")?;
+        out.extend(b"phase\n")?;
     }
     Ok(())
 }
@@ -147,7 +137,7 @@ fn put_next_line(
     put_phases(out, script_line.phase.saturating_sub(phase))?;
     line.clear();
     put_hart_line(line, script_line);
-    put_text(out, line.as_slice())
+    out.extend(line.as_slice())
 }
 
 // The lines of the harts, from phase 0 on.
@@ -169,7 +159,7 @@ fn put_harts(out: &mut Bytes, line: &mut LineBuf, harts: &[u32]) -> Result<(), N
     for hart in harts {
         line.clear();
         put_spaced_decimal(line, *hart);
-        put_text(out, line.as_slice())?;
+        out.extend(line.as_slice())?;
     }
     Ok(())
 }
@@ -181,9 +171,9 @@ fn put_turns(out: &mut Bytes, line: &mut LineBuf, turns: &[u32]) -> Result<(), N
     match turns {
         [] => Ok(()),
         [_, ..] => {
-            put_text(out, b"turns")?;
+            out.extend(b"turns")?;
             put_harts(out, line, turns)?;
-            put_text(out, b"\n")
+            out.extend(b"\n")
         }
     }
 }
@@ -196,11 +186,11 @@ pub fn print(alloc: Global, script: &Script) -> Result<Bytes, NoMemory>
     let mut out = Bytes::new(alloc);
     let mut line = LineBuf::new();
     put_board(&mut line, script.pages, script.harts, script.files);
-    put_text(&mut out, line.as_slice())?;
+    out.extend(line.as_slice())?;
     put_key(&mut out, &mut line, script.key.as_slice())?;
     put_fills(&mut out, &mut line, script.fills.as_slice())?;
     put_lines(&mut out, &mut line, script.lines.as_slice())?;
     put_turns(&mut out, &mut line, script.turns.as_slice())?;
-    put_text(&mut out, b"end\n")?;
+    out.extend(b"end\n")?;
     Ok(out)
 }

@@ -8,7 +8,7 @@ loop-byte-preserved c =
     let bytes : List ℕ = c.args.bytes.now in
     let i : ℕ = c.loop-byte.byte-index in
     let digits : List ℕ = hex_text (get_or bytes i 0 ∷ []) in
-    let put : c.put_text.new.out ≡ c.loop-byte.out ++ c.as_slice.result.now = c.in_ok-put_text.ensures in
+    let put : c.extend.new.self ≡ c.loop-byte.out ++ c.as_slice.result.now = c.in_ok-extend.ensures.ok in
     let piece : c.as_slice.result.now ≡ digits = c.as_slice.ensures.bytes ∙ c.put_hex.ensures.text ∙ rw c.clear.ensures refl in
     put
     ∙ ap (λ (text : List ℕ). c.loop-byte.out ++ text) piece
