@@ -1,6 +1,6 @@
 //! What the program prints, line by line.
 
-ghost use Rattle.std.specs.Prelude.{◌≡◌, ◌+◌, ◌≤◌, ◌<◌, ◌++◌, ◌∷◌, [], ◌^◌, OnOk, OnErr, codes, length, IsTrue, if◌then◌else◌};
+ghost use Rattle.std.specs.Prelude.{◌≡◌, ◌≤◌, OnOk, OnErr, codes, length, IsTrue, if◌then◌else◌};
 ghost use Rattle.std.specs.Io.KnownBytes.{Appends};
 ghost use Rattle.cove_io.specs.Ends.{AppendsFront, Rose};
 ghost use Rattle.cove_journal.specs.Lines.{is_writable, last_line_of};

@@ -1,6 +1,6 @@
 //! The top call: from the bytes of a script to the bytes of its journal.
 
-ghost use Rattle.std.specs.Prelude.{◌≡◌, ◌<◌, ◌^◌, ◌≤◌, ◌≢◌, ◌⊎◌, ◌↔◌, IsTrue, IfOk, IsErrOf, true, false, Some, None, Ok, Err, List, ℕ, length};
+ghost use Rattle.std.specs.Prelude.{◌≡◌, ◌<◌, ◌≢◌, ◌⊎◌, ◌↔◌, IsTrue, IfOk, IsErrOf, true, false, Some, Ok, Err, List, ℕ, length};
 ghost use Rattle.std.specs.Io.KnownBytes.{Appends};
 ghost use Rattle.cove_base.specs.Scripts.{ScriptValue};
 ghost use Rattle.cove_io.specs.Ends.{AppendsFront, Rose, TakesAtMost};
