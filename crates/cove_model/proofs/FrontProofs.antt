@@ -1,5 +1,5 @@
 -- A script in front of other text, and the lines up to the first line `end`.
-use Rattle.std.proofs.Common.{◌≡◌, ℕ, suc, ◌+◌, ◌<◌, ◌≤◌, Bool, true, false, cond, ◌&&◌, not, min, nat_lt, ◌==◌, ◌⊎◌, ◌↔◌, List, [], ◌∷◌, ◌++◌, length, take, drop, sum_by, codes, bytes_eq, Option, Some, None, Result, Ok, Err, refl, sym, ap, subst, ◌∙◌, append_assoc, inl, inr, arith}
+use Rattle.std.proofs.Common.{◌≡◌, ℕ, suc, ◌+◌, ◌≤◌, Bool, true, false, cond, not, min, nat_lt, ◌==◌, ◌⊎◌, List, [], ◌∷◌, ◌++◌, length, take, drop, sum_by, codes, bytes_eq, Result, Ok, Err, refl, sym, ap, subst, ◌∙◌, append_assoc, inl, inr, arith}
 use Rattle.std.specs.List.{list_all}
 use Rattle.std.proofs.lemmas.Bool.{cases_Bool, and_parts, and_from, not-true, ltb-false, le-ltb, eqb-true}
 use Rattle.std.proofs.lemmas.List.{append-nil, drop_all, length-append, take-append-drop, take-append-le, take_all}
@@ -10,7 +10,7 @@ use Rattle.cove_base.specs.declared.faults.Kind.{Kind}
 use Rattle.cove_base.specs.declared.faults.Kind.TheVariants.{NotAscii, TooLong}
 use Rattle.cove_base.specs.declared.faults.ScriptFault.{ScriptFault}
 use Rattle.cove_base.specs.Scripts.{ScriptValue}
-use Rattle.cove_base.specs.Text.{is_line_end, lines_from, text_lines, text_words, nonempty_piece}
+use Rattle.cove_base.specs.Text.{is_line_end, lines_from, text_lines, text_words}
 use Rattle.cove_model.specs.Grammar.{Word, Reading, Content, BoardLine, KeyLine, FillLine, PhaseLine, TurnsLine, EndLine, Unknown, hart_content, content_of, is_hart_word, is_ascii, is_remark, has_wrong_count, after, judged, words_read, line_read, lines_read, then_read, fault_at, opening_reading, script_of}
 use Rattle.cove_model.specs.Fronts.{is_end, is_end_line, front_lines, front_size, with_place, front_of, AreUpToEnd, IsAfterLine, IsFront}
 use Rattle.cove_model.proofs.GrammarLimits.{accepted}

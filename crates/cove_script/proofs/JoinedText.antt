@@ -8,7 +8,7 @@ use Rattle.std.proofs.lemmas.List.{append-nil}
 use Rattle.std.proofs.lemmas.List.Folds.{list_all-append}
 use Rattle.cove_base.proofs.ScriptLimits.{all_weaker}
 use Rattle.cove_base.specs.Scripts.{ScriptValue}
-use Rattle.cove_base.specs.Text.{is_line_end, lines_from, text_lines, text_words}
+use Rattle.cove_base.specs.Text.{is_line_end, lines_from, text_lines}
 use Rattle.cove_text.proofs.JoinedWords as joined
 use Rattle.cove_model.specs.Grammar.{Reading, Word, is_text_byte, is_ascii, words_read, line_read, lines_read}
 use Rattle.cove_model.specs.ScriptText.{words_text, lines_text}

@@ -1,12 +1,12 @@
 -- What is written of a number, or of bytes, is a word that is read back.
-use Rattle.std.proofs.Common.{◌≡◌, ℕ, suc, ◌^◌, ◌<◌, ◌≤◌, Bool, true, nat_le, nat_lt, List, [], ◌∷◌, length, map, slice_index, Option, Some, is_some, unwrap_or, refl, ap, ◌∙◌, arith}
+use Rattle.std.proofs.Common.{◌≡◌, ℕ, suc, ◌^◌, ◌<◌, ◌≤◌, true, nat_le, nat_lt, List, [], ◌∷◌, length, map, slice_index, Option, Some, is_some, unwrap_or, refl, ap, ◌∙◌, arith}
 use Rattle.std.specs.List.{list_all}
 use Rattle.std.specs.Char.{digit_char, is_digit}
 use Rattle.std.proofs.lemmas.Bool.{and_parts, and_from, leb-true, le-leb, ltb-true}
 use Rattle.std.proofs.lemmas.Bool.Decides.{nat_tests}
 use Rattle.std.proofs.lemmas.List.{length-map}
 use Rattle.cove_base.proofs.ScriptLimits.{all_weaker}
-use Rattle.cove_base.specs.Numbers.{number_of, number_text, natural_text, hex_of, hex_text, shortest_digits}
+use Rattle.cove_base.specs.Numbers.{number_of, number_text, natural_text, hex_text, shortest_digits}
 use Rattle.cove_text.proofs.Numerals.{length-shortest_digits, list_all-shortest_digits, number_of-number_text, number_of-natural_text}
 use Rattle.cove_text.proofs.HexDigits.{hex_of-hex_text, length-hex_text, list_all-hex_text}
 use Rattle.cove_model.specs.Grammar.{Word, is_number, value, bytes_of, is_hex, are_numbers}

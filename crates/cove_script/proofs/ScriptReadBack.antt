@@ -1,5 +1,5 @@
 -- The canonical text of a script is read back as that script.
-use Rattle.std.proofs.Common.{◌≡◌, ℕ, zero, suc, ◌+◌, ◌-◌, ◌*◌, ◌^◌, ◌<◌, ◌≤◌, Bool, true, false, ◌==◌, ◌&&◌, nat_le, nat_lt, List, [], ◌∷◌, ◌++◌, length, map, codes, Ok, refl, sym, ap, subst, ◌∙◌, append_assoc, arith}
+use Rattle.std.proofs.Common.{◌≡◌, ℕ, zero, suc, ◌+◌, ◌-◌, ◌*◌, ◌^◌, ◌<◌, ◌≤◌, Bool, true, false, ◌==◌, nat_le, nat_lt, List, [], ◌∷◌, ◌++◌, length, map, codes, Ok, refl, sym, subst, append_assoc, arith}
 use Rattle.std.specs.Prelude.{replicate}
 use Rattle.std.specs.List.{list_all, AllByRecursion}
 use Rattle.std.proofs.lemmas.Bool.{and_parts, and_from, leb-true, le-ltb, ltb-true, lt-ltb, ne_eqb}
@@ -11,7 +11,7 @@ use Rattle.cove_base.specs.declared.scripts.ScriptLine.{ScriptLine}
 use Rattle.cove_base.specs.declared.scripts.Fill.{Fill}
 use Rattle.cove_base.specs.Numbers.{number_text, natural_text, hex_text}
 use Rattle.cove_base.specs.Scripts.{ScriptValue, is_within_limits, is_fill, is_line_within, phases_rise_from}
-use Rattle.cove_model.specs.Grammar.{Word, Reading, value, bytes_of, is_board, are_numbers, content_of, judged, words_read, script_of, opening_reading}
+use Rattle.cove_model.specs.Grammar.{Word, Reading, value, is_board, are_numbers, content_of, judged, words_read, script_of, opening_reading}
 use Rattle.cove_model.specs.ScriptText.{board_words, key_words, fill_words, phase_words, hart_words, body_words, turns_words, end_words, script_words, lines_text, script_text}
 use Rattle.cove_script.specs.MachineNumbers.{HasMachineNumbers, HasBytes, HasFittingNumbers}
 use Rattle.cove_script.proofs.JoinedText.{Spells, Spells-cons}

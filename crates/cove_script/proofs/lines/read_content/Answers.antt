@@ -1,4 +1,4 @@
-use Rattle.std.proofs.Common.{◌≡◌, Bool, true, false, cond, not, ◌&&◌, List, [], ◌∷◌, codes, bytes_eq, Err, refl, sym, ap, ◌∙◌}
+use Rattle.std.proofs.Common.{◌≡◌, Bool, true, false, cond, List, [], ◌∷◌, codes, bytes_eq, Err, refl, sym, ap, ◌∙◌}
 use Rattle.cove_base.specs.declared.faults.Kind.TheVariants.{BadHeader}
 use Rattle.cove_model.specs.Grammar.{Reading, Word, Content, KeyLine, FillLine, PhaseLine, TurnsLine, EndLine, Unknown, content_of, hart_content, is_hart_word, is_header, judged}
 use Rattle.cove_script.specs.Judging.{words_of}
