@@ -46,7 +46,7 @@ asked_line script S h (Some line) d = (line, refl, d)
 
 -- ---- lists
 
-take_next : {X : Type 0} (xs : List X) (n : ℕ) (x : X) → slice_get xs n ≡ Some x → take (suc n) xs ≡ take n xs ++ x ∷ []
+pub take_next : {X : Type 0} (xs : List X) (n : ℕ) (x : X) → slice_get xs n ≡ Some x → take (suc n) xs ≡ take n xs ++ x ∷ []
 take_next [] n x e = cc
 take_next (y ∷ ys) zero x e = ap (λ z. z ∷ []) (same_Some y x e)
 take_next (y ∷ ys) (suc n) x e = ap (λ zs. y ∷ zs) (take_next ys n x e)

@@ -31,7 +31,7 @@ filter-filter p q (x ∷ xs) = go (q x) ∙ ap (λ ys. cond (q x && p x) (x ∷ 
     go true = refl
     go false = refl
 
-range_passes : (p : ℕ → Bool) (a n : ℕ) (k : ℕ) → has k (filter p (range_with_len a n)) ≡ true → (a ≤ k) × (k < a + n) × (p k ≡ true)
+pub range_passes : (p : ℕ → Bool) (a n : ℕ) (k : ℕ) → has k (filter p (range_with_len a n)) ≡ true → (a ≤ k) × (k < a + n) × (p k ≡ true)
 range_passes p a zero k e = absurd (false≢true e)
 range_passes p a (suc n) k e = go (p a) refl e (range_passes p (a + 1) n k)
   where
@@ -44,7 +44,7 @@ range_passes p a (suc n) k e = go (p a) refl e (range_passes p (a + 1) n k)
     ]
     go false passes h more = let q = more h in (omega arith, omega arith, q.2)
 
-range_keeps : (p : ℕ → Bool) (a n : ℕ) (k : ℕ) → a ≤ k → k < a + n → p k ≡ true → has k (filter p (range_with_len a n)) ≡ true
+pub range_keeps : (p : ℕ → Bool) (a n : ℕ) (k : ℕ) → a ≤ k → k < a + n → p k ≡ true → has k (filter p (range_with_len a n)) ≡ true
 range_keeps p a zero k low high passes = absurd (omega arith)
 range_keeps p a (suc n) k low high passes = go (p a) refl (cases_eq a k) (λ l u. range_keeps p (a + 1) n k l u passes)
   where

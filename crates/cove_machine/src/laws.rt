@@ -1,0 +1,157 @@
+//! The laws of the definitions: their clauses say what holds of every script, state and history.
+
+ghost use Rattle.std.specs.Prelude.{◌≡◌, ◌<◌, ◌≤◌, ◌↔◌, ℕ, List, [], ◌∷◌, ◌++◌, length, Some, None, true, IsTrue};
+ghost use Rattle.cove_base.specs.Registers.{register};
+ghost use Rattle.cove_base.specs.Scripts.{ScriptValue, is_within_limits};
+ghost use Rattle.cove_base.specs.declared.calls.GuestAct.{GuestAct};
+ghost use Rattle.cove_base.specs.declared.calls.HostCall.{HostCall};
+ghost use Rattle.cove_base.specs.declared.events.Entry.{Entry};
+ghost use Rattle.cove_base.specs.declared.events.Event.{Event};
+ghost use Rattle.cove_base.specs.declared.events.Event.TheVariants.{Call, Guest};
+ghost use Rattle.cove_base.specs.declared.scripts.Line.{Line};
+ghost use Rattle.cove_base.specs.declared.statuses.Reply.{Reply};
+ghost use Rattle.cove_base.specs.declared.walks.Target.{Target};
+ghost use Rattle.cove_model.specs.HostMemory.{seen_words};
+ghost use Rattle.cove_model.specs.Owners.{page_at};
+ghost use Rattle.cove_machine.specs.Answers.{reply_by, reply_to};
+ghost use Rattle.cove_machine.specs.Cached.{IsCached, IsQuiet, IsQuietAt, IsReached, WasFound};
+ghost use Rattle.cove_machine.specs.GuestCalls.{guest_rule};
+ghost use Rattle.cove_machine.specs.Histories.{Begins, Follows, Legal, after, after_entry, own, told};
+ghost use Rattle.cove_machine.specs.Mappings.{mapping_of};
+ghost use Rattle.cove_machine.specs.Offers.{cpu_of, may_succeed};
+ghost use Rattle.cove_machine.specs.Played.{IsEnded, IsOver, Play, played, round};
+ghost use Rattle.cove_machine.specs.Seated.{IsSeated, IsStill};
+ghost use Rattle.cove_machine.specs.Sound.{IsSound, IsUsable};
+ghost use Rattle.cove_machine.specs.States.{Seat, State, ended_by, find_tvm};
+ghost use Rattle.cove_machine.specs.Steps.{Allows, IsStep, asked};
+ghost use Rattle.cove_machine.specs.Translations.{held_after, holds_target, tlb, touched};
+ghost use Rattle.cove_machine.specs.Tvms.{Mapping, OwnPage, Tvm};
+
+/// What a history gives, one entry later.
+pub fn one_entry_later()
+    ensures state { (script : ScriptValue) (history : List Entry) (entry : Entry)
+        → after script (history ++ entry ∷ []) ≡ after_entry (after script history) entry }
+    ensures legal { (script : ScriptValue) (history : List Entry) (entry : Entry)
+        → Legal script (history ++ entry ∷ [])
+        ↔ (Legal script history × Allows script (after script history) entry.hart.0 entry.event) }
+    ensures cached { (script : ScriptValue) (history : List Entry) (entry : Entry)
+        → IsCached script (history ++ entry ∷ [])
+        ↔ (IsCached script history × IsReached script history entry.hart.0 entry.event) }
+    ensures quiet { (script : ScriptValue) (history : List Entry) (entry : Entry)
+        → IsQuiet script (history ++ entry ∷ []) ↔ (IsQuiet script history × IsQuietAt script history entry) }
+    ensures own { (history : List Entry) (entry : Entry)
+        → own (history ++ entry ∷ []) entry.hart.0 ≡ own history entry.hart.0 ++ entry ∷ [] }
+    ensures told { (history : List Entry) (entry : Entry) (line : Line)
+        → asked entry.event ≡ Some line
+        → told (history ++ entry ∷ []) entry.hart.0 ≡ told history entry.hart.0 ++ line ∷ [] }
+    ensures translations { (script : ScriptValue) (history : List Entry) (entry : Entry) (hart : ℕ)
+        → tlb script (history ++ entry ∷ []) hart ≡ held_after hart (after script history) (tlb script history hart) entry }
+{}
+
+/// An entry of another hart leaves a hart's entries, lines, seat and translations as they are.
+pub fn others_untouched()
+    ensures own { (history : List Entry) (entry : Entry) (hart : ℕ)
+        → (entry.hart.0 ≡ hart → ⊥) → own (history ++ entry ∷ []) hart ≡ own history hart }
+    ensures told { (history : List Entry) (entry : Entry) (hart : ℕ)
+        → (entry.hart.0 ≡ hart → ⊥) → told (history ++ entry ∷ []) hart ≡ told history hart }
+    ensures ended { (script : ScriptValue) (history : List Entry) (entry : Entry) (hart : ℕ)
+        → (entry.hart.0 ≡ hart → ⊥)
+        → ended_by (after script (history ++ entry ∷ [])) hart ≡ ended_by (after script history) hart }
+    ensures seat { (script : ScriptValue) (history : List Entry) (entry : Entry) (hart : ℕ)
+        → (entry.hart.0 ≡ hart → ⊥)
+        → (after script (history ++ entry ∷ [])).seats hart ≡ (after script history).seats hart }
+    ensures translations { (script : ScriptValue) (history : List Entry) (entry : Entry) (hart : ℕ)
+        → (entry.hart.0 ≡ hart → ⊥) → tlb script (history ++ entry ∷ []) hart ≡ tlb script history hart }
+{}
+
+/// A step is determined by the script, the state and the entry; a hart's event, up to how an access ends.
+pub fn steps_are_determined()
+    ensures state { (script : ScriptValue) (before one other : State) (entry : Entry)
+        → IsStep script before entry one → IsStep script before entry other → one ≡ other }
+    ensures event { (script : ScriptValue) (S : State) (hart : ℕ) (one other : Event)
+        → Allows script S hart one → Allows script S hart other → touched S hart one ≡ touched S hart other → one ≡ other }
+{}
+
+/// Each call of the host, and each of a guest, is answered as its rule says.
+pub fn rules_answer()
+    ensures host { (script : ScriptValue) (S : State) (hart : ℕ) (call : HostCall) (reply : Reply)
+        → S.seats hart ≡ None → Allows script S hart (Call call reply) → reply ≡ reply_to S hart call }
+    ensures guest { (script : ScriptValue) (S : State) (hart : ℕ) (seat : Seat) (act : GuestAct) (reply : Reply)
+        → S.seats hart ≡ Some seat → Allows script S hart (Guest act reply)
+        → reply ≡ reply_by (guest_rule S hart seat.tvm (register (cpu_of S seat).x 10) (register (cpu_of S seat).x 11) act) }
+{}
+
+/// After every history, legal or not, pages, mappings and what they wait for are sound.
+pub fn states_are_sound()
+    ensures { (script : ScriptValue) (history : List Entry) → IsSound (after script history) }
+{}
+
+/// The words of a TVM's own page stand under its guest page, and host memory has none of them.
+pub fn private_pages_are_not_host_memory()
+    ensures { (script : ScriptValue) (history : List Entry) (tvm : Tvm) (mapping : Mapping) (t g page : ℕ) (words : List ℕ)
+        → find_tvm (after script history) t ≡ Some tvm → mapping_of tvm g ≡ Some mapping
+        → mapping.backing ≡ OwnPage page words
+        → seen_words (page_at (after script history).pages page) ≡ None }
+{}
+
+/// Along a legal history harts that are inside sit on vCPUs that run, no two of them on one.
+pub fn harts_sit_on_vcpus_that_run()
+    ensures { (script : ScriptValue) (history : List Entry)
+        → IsTrue (is_within_limits script) → Legal script history → IsSeated (after script history) }
+{}
+
+/// What other harts do leaves the registers, the place, the latched word and the fuel of the vCPU that a hart runs.
+pub fn entries_of_others_leave_a_running_vcpu()
+    ensures { (script : ScriptValue) (history since : List Entry) (hart : ℕ) (seat : Seat)
+        → IsTrue (is_within_limits script) → hart < script.harts → (after script history).seats hart ≡ Some seat
+        → Legal script history → Legal script (history ++ since) → own since hart ≡ []
+        → IsStill (cpu_of (after script history) seat) (cpu_of (after script (history ++ since)) seat) }
+{}
+
+/// A hart may use what it holds translations of, and what a walk found since its last entry.
+pub fn translations_are_usable()
+    ensures held { (script : ScriptValue) (history : List Entry) (hart : ℕ)
+        → IsTrue (is_within_limits script) → Legal script history
+        → IsUsable (after script history) hart (tlb script history hart) }
+    ensures target { (script : ScriptValue) (history : List Entry) (hart : ℕ) (target : Target)
+        → IsTrue (is_within_limits script) → Legal script history → holds_target (tlb script history hart) target ≡ true
+        → may_succeed (after script history) hart target ≡ true }
+    ensures found { (script : ScriptValue) (history : List Entry) (hart : ℕ) (target : Target)
+        → hart < script.harts → WasFound script history hart target
+        → may_succeed (after script history) hart target ≡ true }
+{}
+
+/// In a legal history no page changes hands while a translation of any hart names it.
+pub fn legal_histories_are_quiet()
+    ensures { (script : ScriptValue) (history : List Entry)
+        → IsTrue (is_within_limits script) → Legal script history → IsQuiet script history }
+{}
+
+/// A legal history begins its script, and follows it, with nobody inside, where no line is left.
+pub fn legal_histories_begin()
+    ensures begins { (script : ScriptValue) (history : List Entry) → Legal script history → Begins script history }
+    ensures follows { (script : ScriptValue) (history : List Entry)
+        → Legal script history → IsOver script history → Follows script history }
+{}
+
+/// What a script plays is one legal and cached history that begins the script. It ends, with no line left or at its limit.
+pub fn played_histories_are_legal()
+    ensures legal { (limit : ℕ) (script : ScriptValue)
+        → IsTrue (is_within_limits script) → Legal script (played limit script) }
+    ensures cached { (limit : ℕ) (script : ScriptValue)
+        → IsTrue (is_within_limits script) → IsCached script (played limit script) }
+    ensures quiet { (limit : ℕ) (script : ScriptValue)
+        → IsTrue (is_within_limits script) → IsQuiet script (played limit script) }
+    ensures begins { (limit : ℕ) (script : ScriptValue)
+        → IsTrue (is_within_limits script) → Begins script (played limit script) }
+    ensures bounded { (limit : ℕ) (script : ScriptValue) → length (played limit script) ≤ limit }
+    ensures ends { (limit : ℕ) (script : ScriptValue) → IsEnded limit script (played limit script) }
+    ensures follows { (limit : ℕ) (script : ScriptValue)
+        → IsTrue (is_within_limits script) → IsOver script (played limit script) → Follows script (played limit script) }
+{}
+
+/// A round of turns that changes nothing is the last one.
+pub fn still_rounds_are_last()
+    ensures { (limit : ℕ) (script : ScriptValue) (play : Play)
+        → round limit script play ≡ play → IsEnded limit script play.history }
+{}
