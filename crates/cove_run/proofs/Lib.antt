@@ -1,5 +1,4 @@
 pub mod HistoryLemmas
 pub mod PrintLemmas
 pub mod ReadableEntries
-pub mod ScriptNumbers
 pub mod TopLemmas
