@@ -8,8 +8,9 @@ ghost use Rattle.cove_journal.specs.Forms.{is_sized};
 ghost use Rattle.cove_journal.specs.Journals.{is_readable, journal_history};
 ghost use Rattle.cove_model.specs.Histories.{Legal};
 ghost use Rattle.cove_model.specs.Reports.{report, report_limit};
+ghost use Rattle.cove_run.specs.TopCall.{IsReadBack, history_of};
 
-use cove_base::History;
+use cove_base::{History, Script};
 use cove_journal::event_fits;
 
 /// What `tsm_alone` prints at its statuses 0 and 4 is read back: the journal of every history that the program holds
@@ -24,6 +25,15 @@ pub fn printed_journals_are_read_back(history: &History)
         → journal_history (report_limit history.now) ≡ Some (history.now, false) }
 {
     entries_fit(history);
+}
+
+// The journal of the history that a script plays is read back.
+pub(crate) fn played_journal_is_read_back(history: &History, script: &Script)
+    requires { history.now ≡ history_of script.now }
+    ensures { IsReadBack (history_of script.now) }
+{
+    printed_journals_are_read_back(history);
+    let _pages = script.pages;
 }
 
 // The numbers of the entries of a history have 64 bits.

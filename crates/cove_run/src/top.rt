@@ -10,8 +10,9 @@ ghost use Rattle.cove_model.specs.Grammar.{script_of};
 ghost use Rattle.cove_model.specs.Played.{IsOver};
 ghost use Rattle.cove_model.specs.Reports.{report, report_limit};
 ghost use Rattle.cove_run.specs.Printing.{AreWritable, refusal_line};
-ghost use Rattle.cove_run.specs.TopCall.{IsHistoryOf, Prints, Reads, history_of};
+ghost use Rattle.cove_run.specs.TopCall.{IsHistoryOf, IsReadBack, Prints, Reads, history_of};
 
+use crate::journals::played_journal_is_read_back;
 use crate::printing::{print_journal, print_refusal};
 use cove_base::{ENTRY_LIMIT, History, Kind, NoMemory, SCRIPT_LIMIT, Script, ScriptFault};
 use cove_core::{build, play};
@@ -62,14 +63,16 @@ pub fn tsm_alone<S: Source, K: Sink>(
     ensures done { result ≡ 0 → (script : ScriptValue)
         × Reads (S.left source.old) (S.left source.new) (Ok script)
         × Appends (K.taken sink.old) (K.taken sink.new) (report (history_of script))
-        × IsHistoryOf script (history_of script) × Follows script (history_of script) }
+        × IsHistoryOf script (history_of script) × Follows script (history_of script)
+        × IsReadBack (history_of script) }
 
     // The same where the history came to its limit before a line was made.
     ensures limit { result ≡ 4 → (script : ScriptValue)
         × Reads (S.left source.old) (S.left source.new) (Ok script)
         × Appends (K.taken sink.old) (K.taken sink.new) (report_limit (history_of script))
         × IsHistoryOf script (history_of script)
-        × (length (history_of script) ≡ ENTRY_LIMIT) × (IsOver script (history_of script) → ⊥) }
+        × (length (history_of script) ≡ ENTRY_LIMIT) × (IsOver script (history_of script) → ⊥)
+        × IsReadBack (history_of script) }
 
     // What is no script is refused by one line, which names its first fault.
     ensures refused { result ≡ 3 → (fault : _) × Reads (S.left source.old) (S.left source.new) (Err fault)
@@ -151,9 +154,11 @@ fn refuse<K: Sink>(fault: ScriptFault, sink: &mut K) -> u8
 // Runs a script, and prints its journal.
 fn run<K: Sink>(alloc: Global, script: &Script, sink: &mut K) -> u8
     ensures done { result ≡ 0 → IsOver script.now (history_of script.now)
-        × Appends (K.taken sink.old) (K.taken sink.new) (report (history_of script.now)) }
+        × Appends (K.taken sink.old) (K.taken sink.new) (report (history_of script.now))
+        × IsReadBack (history_of script.now) }
     ensures limit { result ≡ 4 → (IsOver script.now (history_of script.now) → ⊥)
-        × Appends (K.taken sink.old) (K.taken sink.new) (report_limit (history_of script.now)) }
+        × Appends (K.taken sink.old) (K.taken sink.new) (report_limit (history_of script.now))
+        × IsReadBack (history_of script.now) }
     ensures memory { result ≡ 1 → sink.new ≡ sink.old }
     ensures sink_fault { result ≡ 6 → Rose (K.count sink.old) (K.count sink.new)
         × ((text : List ℕ) × Prints (Ok script.now) text × AppendsFront (K.taken sink.old) (K.taken sink.new) text) }
@@ -170,14 +175,17 @@ fn print_whole<K: Sink>(history: &History, is_whole: bool, script: &Script, sink
     requires history { history.now ≡ history_of script.now }
     requires whole { IsTrue is_whole ↔ IsOver script.now (history_of script.now) }
     ensures done { result ≡ 0 → IsOver script.now (history_of script.now)
-        × Appends (K.taken sink.old) (K.taken sink.new) (report (history_of script.now)) }
+        × Appends (K.taken sink.old) (K.taken sink.new) (report (history_of script.now))
+        × IsReadBack (history_of script.now) }
     ensures limit { result ≡ 4 → (IsOver script.now (history_of script.now) → ⊥)
-        × Appends (K.taken sink.old) (K.taken sink.new) (report_limit (history_of script.now)) }
+        × Appends (K.taken sink.old) (K.taken sink.new) (report_limit (history_of script.now))
+        × IsReadBack (history_of script.now) }
     ensures sink_fault { result ≡ 6 → Rose (K.count sink.old) (K.count sink.new)
         × ((text : List ℕ) × Prints (Ok script.now) text × AppendsFront (K.taken sink.old) (K.taken sink.new) text) }
     ensures statuses { (result ≡ 0) ⊎ ((result ≡ 4) ⊎ (result ≡ 6)) }
 {
     played_facts(script);
+    played_journal_is_read_back(history, script);
     match print_journal(history, is_whole, sink) {
         Ok(()) if is_whole => DONE,
         Ok(()) => AT_LIMIT,

@@ -43,6 +43,7 @@ returns-in-Ok-parse-clause-done g c = λ is.
       ran.1,
       c.played_facts.ensures.history,
       c.played_facts.ensures.follows ran.0,
+      ran.2,
     )
 
 pub returns-in-Ok-parse-clause-limit : goal.returns-in-Ok-parse-clause-limit
@@ -55,6 +56,7 @@ returns-in-Ok-parse-clause-limit g c = λ is.
       c.played_facts.ensures.history,
       c.played_facts.ensures.full ran.0,
       ran.0,
+      ran.2,
     )
 
 pub returns-in-Ok-parse-clause-sink_fault : goal.returns-in-Ok-parse-clause-sink_fault
