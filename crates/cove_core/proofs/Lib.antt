@@ -16,4 +16,3 @@ pub mod Rounds
 pub mod FillLemmas
 pub mod Building
 pub mod KeptRuleProofs
-pub mod FenceScripts

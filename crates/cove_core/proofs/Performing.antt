@@ -29,8 +29,7 @@ use Rattle.cove_model.proofs.Fitting.{ring_filled, ring_finds_page}
 use Rattle.cove_model.proofs.Playing.{was_now}
 use Rattle.cove_model.proofs.ToldProofs.{words_tell_host}
 use Rattle.cove_model.proofs.Usable.{held_since, usable, use_host}
-use Rattle.cove_model.specs.Cached.{WasHost}
-use Rattle.cove_model.specs.Cached.{ComesTo as IsRight}
+use Rattle.cove_model.specs.Cached.{Reaches, WasHost}
 use Rattle.cove_model.specs.Fits.{Fits, IsSought, UnusedFits, WalkFits, ring_of, walked_ring}
 use Rattle.cove_model.specs.Histories.{Legal, after}
 use Rattle.cove_model.specs.Owners.{has, is_host, may_use, page_at}
@@ -59,7 +58,7 @@ MayReach S h p reach.Absent = is_host (page_at S.pages p) ≡ false
 
 -- what was reached is right, and the ring is that of the translations
 pub record IsReachedRightly (script : ScriptValue) (H : List Entry) (h p : ℕ) (hosts : List (ℕ × Page)) (r : Reach) : Type 0 where
-  pub right : IsRight script H h p (how_of r)
+  pub right : Reaches script H h p (how_of r)
   pub may : MayReach (after script H) h p r
   pub ring : hosts ≡ ring_of (pages_by r p (tlb script H h).pages)
 

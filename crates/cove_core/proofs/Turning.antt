@@ -41,8 +41,7 @@ use Rattle.cove_model.proofs.AtTheEnd.{each_last}
 use Rattle.cove_model.proofs.Beginning.{due, offered}
 use Rattle.cove_model.proofs.Playing.{noted_other, noted_same, turn_full, turn_open}
 use Rattle.cove_model.proofs.ToldProofs.{words_are_words, words_tell_host}
-use Rattle.cove_model.specs.Cached.{IsReached}
-use Rattle.cove_model.specs.Cached.{Reaches as IsRight}
+use Rattle.cove_model.specs.Cached.{IsReached, Reaches}
 use Rattle.cove_model.specs.Fits.{Fits}
 use Rattle.cove_model.specs.Histories.{EachEntry, Legal, after}
 use Rattle.cove_model.specs.Offers.{Next, first_behind, offer, offer_of, unless_behind}
@@ -75,15 +74,15 @@ module _ (script : ScriptValue) (limits : Limits script) (H : List Entry) (legal
   told_host : IsHostWord (get_or words (page_word p) 0) → host ≡ true
   told_host word = (words_tell_host script.pages script.harts words (after script H) p below stand.stands.owners).1 word
 
-  unwalked_choice : held.walked ≡ None → (how : Option How) → IsRight script H held.hart p how → choice holds Unwalked host ≡ choice_of how
+  unwalked_choice : held.walked ≡ None → (how : Option How) → Reaches script H held.hart p how → choice holds Unwalked host ≡ choice_of how
   unwalked_choice none how right = by_how how right (reached_rightly script limits H legal words stand held fits l next p asks below ready held.hosts reach.Held (none, refl)).right
     where
-      by_how : (how' : Option How) → IsRight script H held.hart p how' → holds ≡ true → choice holds Unwalked host ≡ choice_of how'
+      by_how : (how' : Option How) → Reaches script H held.hart p how' → holds ≡ true → choice holds Unwalked host ≡ choice_of how'
       by_how (Some Hit) right' named = ap (λ b. choice b Unwalked host) named
       by_how (Some Walk) right' named = absurd (false≢true (sym right'.0 ∙ named))
       by_how None right' named = absurd (false≢true (sym right' ∙ named))
 
-  found_choice : HasWalked held.walked true → (how : Option How) → IsRight script H held.hart p how → IsToldHow words held.hosts host p how → choice holds Found host ≡ choice_of how
+  found_choice : HasWalked held.walked true → (how : Option How) → Reaches script H held.hart p how → IsToldHow words held.hosts host p how → choice holds Found host ≡ choice_of how
   found_choice has_walked how right told = by_how how right told (walk_is script limits H legal words stand held fits l next p asks true has_walked).absent
     where
       no_fault : found p held.hosts ≡ None → host ≡ false → ⊥
@@ -92,12 +91,12 @@ module _ (script : ScriptValue) (limits : Limits script) (H : List Entry) (legal
         | inr word ↦ false≢true (sym off ∙ told_host word)
       ]
 
-      by_how : (how' : Option How) → IsRight script H held.hart p how' → IsToldHow words held.hosts host p how' → holds ≡ false → choice holds Found host ≡ choice_of how'
+      by_how : (how' : Option How) → Reaches script H held.hart p how' → IsToldHow words held.hosts host p how' → holds ≡ false → choice holds Found host ≡ choice_of how'
       by_how (Some Hit) right' told' lacks = absurd (false≢true (sym lacks ∙ right'))
       by_how (Some Walk) right' told' lacks = ap (λ b. choice b Found host) lacks
       by_how None right' told' lacks = absurd (no_fault told'.0 told'.1)
 
-  missing_choice : HasWalked held.walked false → (how : Option How) → IsRight script H held.hart p how → IsToldHow words held.hosts host p how → choice holds Missing host ≡ choice_of how
+  missing_choice : HasWalked held.walked false → (how : Option How) → Reaches script H held.hart p how → IsToldHow words held.hosts host p how → choice holds Missing host ≡ choice_of how
   missing_choice has_walked how right told = by_how how right told (walk_is script limits H legal words stand held fits l next p asks false has_walked).absent
     where
       is_the_hosts : IsWithinReach words held.hosts p → host ≡ true
@@ -106,13 +105,13 @@ module _ (script : ScriptValue) (limits : Limits script) (H : List Entry) (legal
         | inr word ↦ told_host word
       ]
 
-      by_how : (how' : Option How) → IsRight script H held.hart p how' → IsToldHow words held.hosts host p how' → holds ≡ false → choice holds Missing host ≡ choice_of how'
+      by_how : (how' : Option How) → Reaches script H held.hart p how' → IsToldHow words held.hosts host p how' → holds ≡ false → choice holds Missing host ≡ choice_of how'
       by_how (Some Hit) right' told' lacks = absurd (false≢true (sym lacks ∙ right'))
       by_how (Some Walk) right' told' lacks = ap (λ b. choice b Missing host) lacks ∙ ap (choice false Missing) (is_the_hosts told')
       by_how None right' told' lacks = ap (λ b. choice b Missing host) lacks ∙ ap (choice false Missing) told'.1
 
   -- the choice of a play is what the hart's access came to
-  pub chosen : (how : Option How) → IsRight script H held.hart p how → IsToldHow words held.hosts host p how → choice holds (note_of held.walked) host ≡ choice_of how
+  pub chosen : (how : Option How) → Reaches script H held.hart p how → IsToldHow words held.hosts host p how → choice holds (note_of held.walked) host ≡ choice_of how
   chosen how right told = go held.walked refl
     where
       by_finding : (finding : Bool) → HasWalked held.walked finding → choice holds (cond finding Found Missing) host ≡ choice_of how
@@ -132,7 +131,7 @@ module _ (script : ScriptValue) (within : IsTrue (is_within_limits script)) (H :
   abbrev S : State
   S = after script H
 
-  access_choice : (addr : ℕ) (line : Line) → accessed_page line ≡ Some (page_of addr) → offer script S held.hart ≡ Next line → (how : Option How) → IsRight script H held.hart (page_of addr) how → IsToldHow words held.hosts (is_host (page_at S.pages (page_of addr))) (page_of addr) how → choice_at script play S held.hart addr ≡ choice_of how
+  access_choice : (addr : ℕ) (line : Line) → accessed_page line ≡ Some (page_of addr) → offer script S held.hart ≡ Next line → (how : Option How) → Reaches script H held.hart (page_of addr) how → IsToldHow words held.hosts (is_host (page_at S.pages (page_of addr))) (page_of addr) how → choice_at script play S held.hart addr ≡ choice_of how
   access_choice addr line page o how right told =
       let d = due script S held.hart line o in
       let l = prepared.line in

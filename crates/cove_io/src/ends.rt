@@ -1,4 +1,4 @@
-ghost use Rattle.std.specs.Prelude.{◌≡◌, ℕ, ◌<◌, ◌≤◌, List, Option, length, take, IfOk, OnErr};
+ghost use Rattle.std.specs.Prelude.{◌≡◌, ℕ, ◌<◌, ◌≤◌, List, Option, length, take, IfOk, OnOk, OnErr};
 ghost use Rattle.std.specs.Io.KnownBytes.{Appends, Consumes, IsAtEnd, Keeps};
 ghost use Rattle.cove_io.specs.Ends.{Rose};
 
@@ -17,6 +17,7 @@ pub trait Source {
     /// Reads into the buffer's front, and answers how many bytes. No byte for a buffer that has room is the end.
     fn read(&mut self, buf: &mut [u8]) -> Result<usize, Failed>
         ensures count { count self.old ≤ count self.new }
+        ensures clean { OnOk result (count self.new ≡ count self.old) }
         ensures failed { OnErr result (Rose (count self.old) (count self.new)) }
         ensures nothing_lost { OnErr result (Keeps (left self.old) (left self.new)) }
         ensures within { IfOk result (λ n. n ≤ length buf.new) }
@@ -35,6 +36,7 @@ pub trait Sink {
     /// Takes bytes from the piece's front, and answers how many: of a piece that is not empty, one at least.
     fn write(&mut self, piece: &[u8]) -> Result<usize, Failed>
         ensures count { count self.old ≤ count self.new }
+        ensures clean { OnOk result (count self.new ≡ count self.old) }
         ensures failed { OnErr result (Rose (count self.old) (count self.new)) }
         ensures nothing_taken { OnErr result (Keeps (taken self.old) (taken self.new)) }
         ensures within { IfOk result (λ n. n ≤ length piece.now) }

@@ -6,11 +6,13 @@
 //! [`ReadSource`] and [`WriteSink`] are trusted to name what really happened there.
 
 mod ends;
+mod laws;
 mod memory;
 mod outside;
 mod whole;
 
 pub use ends::{Failed, Sink, Source};
+pub use laws::worked_ends;
 pub use memory::{MemSink, MemSource, NullSink, SureSource};
 pub use outside::{ReadSource, WriteSink};
 pub use whole::{ReadError, read_all, write_all};

@@ -1,4 +1,4 @@
-ghost use Rattle.std.specs.Prelude.{◌≡◌, ◌≤◌, OnErr};
+ghost use Rattle.std.specs.Prelude.{◌≡◌, ◌≤◌, OnOk, OnErr};
 ghost use Rattle.std.specs.Io.KnownBytes.{Keeps};
 ghost use Rattle.cove_io.specs.Ends.{Rose};
 ghost use Rattle.cove_io.specs.Memory.{one_more};
@@ -59,6 +59,8 @@ impl<W: Write> WriteSink<W> {
     /// Hands on what the writer still holds back.
     pub fn flush(&mut self) -> Result<(), Failed>
         ensures count { ⟦<WriteSink<W> as Sink>⟧.count self.old ≤ ⟦<WriteSink<W> as Sink>⟧.count self.new }
+        ensures clean { OnOk result
+            (⟦<WriteSink<W> as Sink>⟧.count self.new ≡ ⟦<WriteSink<W> as Sink>⟧.count self.old) }
         ensures failed { OnErr result
             (Rose (⟦<WriteSink<W> as Sink>⟧.count self.old) (⟦<WriteSink<W> as Sink>⟧.count self.new)) }
         ensures taken { Keeps (⟦<WriteSink<W> as Sink>⟧.taken self.old) (⟦<WriteSink<W> as Sink>⟧.taken self.new) }

@@ -8,23 +8,37 @@ use std::io;
 use std::io::{ErrorKind, Read, Write};
 use std::test::Fail;
 
-// A device that is broken.
+// A device that fails so many times, and then works: it gives no byte, and takes all.
 #[derive(Drop)]
-struct Broken;
+struct Failing {
+    failures: u8,
+}
 
-impl Read for Broken {
-    fn read(&mut self, _buf: &mut [u8]) -> io::Result<usize> {
+impl Failing {
+    fn fault(&mut self) -> io::Result<()> {
+        if self.failures == 0 {
+            return Ok(());
+        }
+        self.failures -= 1;
         Err(io::Error::from(ErrorKind::Other))
     }
 }
 
-impl Write for Broken {
-    fn write(&mut self, _buf: &[u8]) -> io::Result<usize> {
-        Err(io::Error::from(ErrorKind::Other))
+impl Read for Failing {
+    fn read(&mut self, _buf: &mut [u8]) -> io::Result<usize> {
+        self.fault()?;
+        Ok(0)
+    }
+}
+
+impl Write for Failing {
+    fn write(&mut self, buf: &[u8]) -> io::Result<usize> {
+        self.fault()?;
+        Ok(buf.len())
     }
 
     fn flush(&mut self) -> io::Result<()> {
-        Err(io::Error::from(ErrorKind::Other))
+        self.fault()
     }
 }
 
@@ -108,12 +122,19 @@ fn readers_and_writers_of_std(rt: HostRuntime) -> Result<(), Fail> {
 }
 
 #[test]
-fn the_faults_of_a_broken_device(rt: HostRuntime) -> Result<(), Fail> {
-    let mut source = ReadSource::new(Broken);
-    let read = read_all(rt.alloc(), &mut source, 9).map(|bytes| bytes.len());
-    assert_eq!(rt; read, Err(ReadError::Failed));
-    let mut sink = WriteSink::new(Broken);
-    assert_eq!(rt; write_all(&mut sink, b"ab"), Err(Failed));
-    assert_eq!(rt; sink.flush(), Err(Failed));
+fn a_fault_shows_and_the_next_call_works(rt: HostRuntime) -> Result<(), Fail> {
+    let mut source = ReadSource::new(Failing { failures: 1 });
+    for expected in [Err(ReadError::Failed), Ok(0)] {
+        let read = read_all(rt.alloc(), &mut source, 9).map(|bytes| bytes.len());
+        assert_eq!(rt; read, expected);
+    }
+    let mut sink = WriteSink::new(Failing { failures: 1 });
+    for expected in [Err(Failed), Ok(())] {
+        assert_eq!(rt; write_all(&mut sink, b"ab"), expected);
+    }
+    let mut sink = WriteSink::new(Failing { failures: 1 });
+    for expected in [Err(Failed), Ok(())] {
+        assert_eq!(rt; sink.flush(), expected);
+    }
     Ok(())
 }

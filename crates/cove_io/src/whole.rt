@@ -1,4 +1,4 @@
-ghost use Rattle.std.specs.Prelude.{◌+◌, ◌≤◌, ◌≢◌, length, IfOk, OnOk, OnErr, Err, IsErrOf};
+ghost use Rattle.std.specs.Prelude.{◌≡◌, ◌+◌, ◌≤◌, ◌≢◌, length, IfOk, OnOk, OnErr, Err, IsErrOf};
 ghost use Rattle.std.specs.Io.KnownBytes.{Appends, Consumes, IsAtEnd};
 ghost use Rattle.cove_io.specs.Ends.{AppendsFront, Rose, TakesAtMost, TakesExactly};
 
@@ -46,6 +46,7 @@ impl From<NoMemory> for ReadError {
 /// Reads a source to its end, where it has no more bytes than the limit; else it stops one byte past the limit.
 pub fn read_all<S: Source>(alloc: Global, source: &mut S, limit: usize) -> Result<Bytes, ReadError>
     ensures count { S.count source.old ≤ S.count source.new }
+    ensures clean { ¬ IsErrOf result ReadError.Failed → S.count source.new ≡ S.count source.old }
     ensures failed { IsErrOf result ReadError.Failed → Rose (S.count source.old) (S.count source.new) }
 
     ensures whole { IfOk result (λ bytes. Consumes (S.left source.old) (S.left source.new) bytes) }
@@ -75,6 +76,7 @@ pub fn read_all<S: Source>(alloc: Global, source: &mut S, limit: usize) -> Resul
 /// Writes the whole piece, in as many writes as the sink takes. It takes no memory.
 pub fn write_all<K: Sink>(sink: &mut K, piece: &[u8]) -> Result<(), Failed>
     ensures count { K.count sink.old ≤ K.count sink.new }
+    ensures clean { OnOk result (K.count sink.new ≡ K.count sink.old) }
     ensures ok { OnOk result (Appends (K.taken sink.old) (K.taken sink.new) piece.now) }
     ensures failed { OnErr result (Rose (K.count sink.old) (K.count sink.new)) }
     ensures front { OnErr result (AppendsFront (K.taken sink.old) (K.taken sink.new) piece.now) }

@@ -75,13 +75,15 @@ entries_are_read (entry ∷ history) readable =
     ∙ ap (option_map (λ es. entry ∷ es)) (entries_are_read history parts.1)
 
 -- the two journals of a history differ in their last lines
+pub reports_differ : (history : List Entry) → report history ≡ report_limit history → ⊥
+reports_differ history e =
+    let ends = append_cancel_left (entry_lines history) (ended_line (last_line_of true (length history))) (ended_line (last_line_of false (length history))) e in
+    absurd (let heads : 101 ≡ 108 = ap (λ (t : List ℕ). get_or t 0 0) ends in omega (arith, heads))
+
 other_report : (history : List Entry) → bytes_eq (report history) (report_limit history) ≡ false
 other_report history =
     false_where_absurd (bytes_eq (report history) (report_limit history))
-    (λ e. let ends = append_cancel_left (entry_lines history) (ended_line (last_line_of true (length history))) (ended_line (last_line_of false (length history)))
-    ((bytes_eq-Decides (report history) (report_limit history)).0 e) in
-    let heads : 101 ≡ 108 = ap (λ (t : List ℕ). get_or t 0 0) ends in
-    omega arith)
+    (λ e. reports_differ history ((bytes_eq-Decides (report history) (report_limit history)).0 e))
 
 reported_is_read : (whole : Bool) (history : List Entry) → if_reported_by (report_by whole history) history ≡ Some (history, whole)
 reported_is_read true history = rw (bytes_eq-same (report history)) refl

@@ -2,3 +2,4 @@ pub mod HistoryLemmas
 pub mod PrintLemmas
 pub mod ReadableEntries
 pub mod TopLemmas
+pub mod WorkedLemmas

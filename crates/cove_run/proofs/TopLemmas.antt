@@ -1,12 +1,15 @@
--- An input that is too long spells no script.
-use Rattle.std.proofs.Common.{◌≡◌, ℕ, ◌+◌, ◌<◌, Bool, true, List, length, length-append, Option, Some, None, Ok, Err, sym, ap, ◌∙◌, arith}
+-- What was read of bytes that are told is what they spell.
+use Rattle.std.proofs.Common.{◌≡◌, ℕ, ◌+◌, ◌<◌, ◌++◌, Bool, true, List, length, length-append, Option, Some, None, Result, Ok, Err, sym, ap, ◌∙◌, arith, ⊎_elim, append-nil}
 use Rattle.std.specs.Prelude.{nat_lt, if◌then◌else◌}
 use Rattle.std.proofs.lemmas.Bool.Decides.{nat_tests}
 use Rattle.cove_base.specs.Scripts.{ScriptValue}
 use Rattle.cove_base.specs.Text.{text_lines}
 use Rattle.cove_base.specs.declared.faults.Kind.TheVariants.{TooLong}
+use Rattle.cove_base.specs.declared.faults.ScriptFault.{ScriptFault}
+use Rattle.cove_base.specs.declared.limits.TheConstants.{SCRIPT_LIMIT}
 use Rattle.cove_io.specs.Ends.{TakesExactly}
 use Rattle.cove_model.specs.Grammar.{script_of, fault_at, lines_read, opening_reading}
+use Rattle.cove_run.specs.TopCall.{Reads, ReadsWhole}
 
 -- more bytes than the limit are the one fault of the whole text
 long_text : (limit : ℕ) (bytes : List ℕ) → limit < length bytes → script_of limit bytes ≡ Err (fault_at 0 TooLong)
@@ -22,10 +25,25 @@ taken_is_long limit (Some rest) bytes taken =
     let size : length taken.0 ≡ limit + 1 = taken.1 in
     omega (arith, ap length taken.2, length-append taken.0 rest)
 
-pub too_long_is_no_script : (limit : ℕ) (old new : Option (List ℕ)) (bytes : List ℕ) (script : ScriptValue) → old ≡ Some bytes → TakesExactly (limit + 1) old new → script_of limit bytes ≡ Ok script → ⊥
-too_long_is_no_script limit None new bytes script told taken spelled = cc
-too_long_is_no_script limit (Some left) new bytes script told taken spelled =
+-- what was read to the end is all that was left
+whole_is_all : (bytes : List ℕ) (new : Option (List ℕ)) (read : List ℕ) → ReadsWhole (Some bytes) new read → bytes ≡ read
+whole_is_all bytes None read whole = absurd whole.consumed
+whole_is_all bytes (Some rest) read whole = whole.consumed ∙ ap (λ more. read ++ more) whole.at_end ∙ append-nil read
+
+pub told_reads : (bytes : List ℕ) (new : Option (List ℕ)) (found : Result ScriptValue ScriptFault) → Reads (Some bytes) new found → script_of SCRIPT_LIMIT bytes ≡ found
+told_reads bytes new found =
+    ⊎_elim
+    (λ read. ap (script_of SCRIPT_LIMIT) (whole_is_all bytes new read.0 read.1) ∙ read.2)
+    (λ long. long_text SCRIPT_LIMIT bytes (taken_is_long SCRIPT_LIMIT new bytes long.0) ∙ sym long.1)
+
+reads_what_is_told : (old new : Option (List ℕ)) (bytes : List ℕ) (found : Result ScriptValue ScriptFault) → old ≡ Some bytes → Reads old new found → script_of SCRIPT_LIMIT bytes ≡ found
+reads_what_is_told None new bytes found told reads = cc
+reads_what_is_told (Some left) new bytes found told reads =
     let same : left ≡ bytes = cc in
-    let long = long_text limit left (taken_is_long limit new left taken) in
-    let fault = sym (ap (script_of limit) same) ∙ long in
+    sym (ap (script_of SCRIPT_LIMIT) same) ∙ told_reads left new found reads
+
+-- bytes whose fault was read spell no script
+pub faulty_is_no_script : (old new : Option (List ℕ)) (bytes : List ℕ) (fault : ScriptFault) (script : ScriptValue) → old ≡ Some bytes → Reads old new (Err fault) → script_of SCRIPT_LIMIT bytes ≡ Ok script → ⊥
+faulty_is_no_script old new bytes fault script told read spelled =
+    let faulty : script_of SCRIPT_LIMIT bytes ≡ Err fault = reads_what_is_told old new bytes (Err fault) told read in
     cc

@@ -7,10 +7,12 @@
 //! run it and write its lines, and on `cove_io`.
 
 mod journals;
+mod laws;
 mod printing;
 #[cfg(test)]
 mod tests;
 mod top;
 
 pub use journals::printed_journals_are_read_back;
+pub use laws::worked_texts;
 pub use top::{USAGE, tsm_alone};

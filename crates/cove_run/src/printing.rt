@@ -17,6 +17,7 @@ use cove_text::{LineBuf, put_decimal};
 pub fn print_journal<K: Sink>(history: &History, is_whole: bool, sink: &mut K) -> Result<(), Failed>
     requires writable { AreWritable history.now }
     ensures count { K.count sink.old ≤ K.count sink.new }
+    ensures clean { OnOk result (K.count sink.new ≡ K.count sink.old) }
     ensures ok { OnOk result (Appends (K.taken sink.old) (K.taken sink.new)
         (journal (if is_whole then codes "end" else codes "limit") history.now)) }
     ensures failed { OnErr result (Rose (K.count sink.old) (K.count sink.new)) }
@@ -56,6 +57,7 @@ fn put_last(text: &mut LineBuf, entries: u32, is_whole: bool)
 /// Prints the one line that refuses an input.
 pub fn print_refusal<K: Sink>(fault: ScriptFault, sink: &mut K) -> Result<(), Failed>
     ensures count { K.count sink.old ≤ K.count sink.new }
+    ensures clean { OnOk result (K.count sink.new ≡ K.count sink.old) }
     ensures ok { OnOk result (Appends (K.taken sink.old) (K.taken sink.new) (refusal_line fault)) }
     ensures failed { OnErr result (Rose (K.count sink.old) (K.count sink.new)) }
     ensures front { OnErr result (AppendsFront (K.taken sink.old) (K.taken sink.new) (refusal_line fault)) }

@@ -22,6 +22,11 @@ const PHASES: &[u8] = b"board 16 2 0\n0 gfence\nphase\n1 lfence\nphase\n0 gfence
 
 const PHASES_JOURNAL: &[u8] = b"0 gfence = 0 0x0\n1 lfence = 0 0x0\n0 gfence = 0 0x0\nend 3\n";
 
+const LARGEST: &[u8] = b"board 1024 8 7\nfill 0x3fffff ff\n7 sd 0x3ffff8 1\n7 ld 0x3ffff8\nend\n";
+
+const LARGEST_JOURNAL: &[u8] =
+    b"7 sd 0x3ffff8 0x1 walk ok\n7 ld 0x3ffff8 hit 0000000000000001\nend 2\n";
+
 fn bytes_of(alloc: Global, items: &[u8]) -> Result<Bytes, NoMemory> {
     let mut bytes = Bytes::new(alloc);
     bytes.extend(items)?;
@@ -46,10 +51,11 @@ fn words_of(alloc: Global, texts: &[&str]) -> Result<Vec<String>, AllocError> {
 fn texts_and_their_journals(rt: HostRuntime) -> Result<(), Fail> {
     let alloc = rt.alloc();
     let words = words_of(alloc, &["sched"])?;
-    let table: [(&[u8], (&[u8], u8)); 9] = [
+    let table: [(&[u8], (&[u8], u8)); 10] = [
         (FIRST, (JOURNAL, 0)),
         (STALE, (STALE_JOURNAL, 0)),
         (PHASES, (PHASES_JOURNAL, 0)),
+        (LARGEST, (LARGEST_JOURNAL, 0)),
         (b"board 16 1 0\nend\n", (b"end 0\n", 0)),
         (
             b"board 16 1 0\n0 info\nend\n",

@@ -1,9 +1,9 @@
 //! The top call: from the bytes of a script to the bytes of its journal.
 
-ghost use Rattle.std.specs.Prelude.{◌≡◌, ◌<◌, ◌^◌, ◌≤◌, ◌⊎◌, ◌↔◌, IsTrue, IfOk, true, false, Some, None, Ok, Err, List, ℕ, length};
+ghost use Rattle.std.specs.Prelude.{◌≡◌, ◌<◌, ◌^◌, ◌≤◌, ◌≢◌, ◌⊎◌, ◌↔◌, IsTrue, IfOk, IsErrOf, true, false, Some, None, Ok, Err, List, ℕ, length};
 ghost use Rattle.std.specs.Io.KnownBytes.{Appends};
 ghost use Rattle.cove_base.specs.Scripts.{ScriptValue};
-ghost use Rattle.cove_io.specs.Ends.{AppendsFront, Rose};
+ghost use Rattle.cove_io.specs.Ends.{AppendsFront, Rose, TakesAtMost};
 ghost use Rattle.cove_model.specs.Commands.{accepts};
 ghost use Rattle.cove_model.specs.Follows.{Follows};
 ghost use Rattle.cove_model.specs.Grammar.{script_of};
@@ -44,6 +44,19 @@ const SOURCE_FAULT: u8 = 5;
 /// The sink met a fault.
 const SINK_FAULT: u8 = 6;
 
+/// The fault of an input with more bytes than a script may have.
+const TOO_LONG: ScriptFault = ScriptFault {
+    line: 0,
+    kind: Kind::TooLong,
+};
+
+// Why no script was read.
+enum Unread {
+    Refused(ScriptFault),
+    Fault,
+    NoMemory,
+}
+
 /// Runs a command: `sched` reads a script, runs it by turns, and prints its journal. The words are looked at
 /// first; then the input is read to its end, or to one byte more than a script may have; then it is parsed; then
 /// all memory is taken; then the steps are made; then the text is written, each line as one piece. It answers the
@@ -58,8 +71,8 @@ pub fn tsm_alone<S: Source, K: Sink>(
     ensures bad_words { (result ≡ 2) ↔ (accepts words.now ≡ false) }
     ensures untouched { result ≡ 2 → (source.new ≡ source.old) × (sink.new ≡ sink.old) }
 
-    // The printed journal is that of the one history that the script plays. It is legal, makes each hart's lines
-    // once and in order, and no page changes hands in it while a translation of a hart names it.
+    // The printed journal is that of the one history that the script plays, and reads as it. It is legal, makes each
+    // hart's lines once and in order, and no page changes hands in it while a translation of a hart names it.
     ensures done { result ≡ 0 → (script : ScriptValue)
         × Reads (S.left source.old) (S.left source.new) (Ok script)
         × Appends (K.taken sink.old) (K.taken sink.new) (report (history_of script))
@@ -78,8 +91,13 @@ pub fn tsm_alone<S: Source, K: Sink>(
     ensures refused { result ≡ 3 → (fault : _) × Reads (S.left source.old) (S.left source.new) (Err fault)
         × Appends (K.taken sink.old) (K.taken sink.new) (refusal_line fault) }
 
-    // Faults come from outside alone, and the sink then holds a front of the text that else stood.
-    ensures memory { result ≡ 1 → sink.new ≡ sink.old }
+    // Want of memory comes before the first write, and never where a byte more was taken than a script may have.
+    ensures memory { result ≡ 1 → (sink.new ≡ sink.old)
+        × TakesAtMost SCRIPT_LIMIT (S.left source.old) (S.left source.new) }
+
+    // Faults come from outside alone, none goes untold, and the sink then holds a front of the text that else stood.
+    ensures clean_source { result ≢ 5 → S.count source.new ≡ S.count source.old }
+    ensures clean_sink { result ≢ 6 → K.count sink.new ≡ K.count sink.old }
     ensures source_fault { result ≡ 5 → Rose (S.count source.old) (S.count source.new) × (sink.new ≡ sink.old) }
     ensures sink_fault { result ≡ 6 → Rose (K.count sink.old) (K.count sink.new)
         × ((found : _) × ((text : List ℕ) × Reads (S.left source.old) (S.left source.new) found
@@ -104,27 +122,11 @@ pub fn tsm_alone<S: Source, K: Sink>(
     if !accepts(words) {
         return BAD_WORDS;
     }
-    let text = match read_all(alloc, source, SCRIPT_LIMIT) {
-        Ok(text) => text,
-        Err(ReadError::Failed) => return SOURCE_FAULT,
-        Err(ReadError::TooLong) => {
-            return refuse(
-                ScriptFault {
-                    line: 0,
-                    kind: Kind::TooLong,
-                },
-                sink,
-            );
-        }
-        Err(ReadError::Memory) => return NO_MEMORY,
-    };
-    match parse(alloc, text.as_slice()) {
-        Ok(script) => {
-            played_facts(&script);
-            run(alloc, &script, sink)
-        }
-        Err(ParseError::Refused(fault)) => refuse(fault, sink),
-        Err(ParseError::Memory) => NO_MEMORY,
+    match read_script(alloc, source) {
+        Ok(script) => run(alloc, &script, sink),
+        Err(Unread::Refused(fault)) => refuse(fault, sink),
+        Err(Unread::Fault) => SOURCE_FAULT,
+        Err(Unread::NoMemory) => NO_MEMORY,
     }
 }
 
@@ -138,11 +140,42 @@ fn accepts(words: &[String]) -> bool
     }
 }
 
+// Reads a source to its end, or to one byte more than a script may have, for the script that it spells.
+fn read_script<S: Source>(alloc: Global, source: &mut S) -> Result<Script, Unread>
+    ensures script { IfOk result (λ script. Reads (S.left source.old) (S.left source.new) (Ok script)) }
+    ensures refused { (fault : _) → IsErrOf result (Unread.Refused fault)
+        → Reads (S.left source.old) (S.left source.new) (Err fault) }
+    ensures fault { IsErrOf result Unread.Fault → Rose (S.count source.old) (S.count source.new) }
+    ensures clean { ¬ IsErrOf result Unread.Fault → S.count source.new ≡ S.count source.old }
+    ensures memory { IsErrOf result Unread.NoMemory → TakesAtMost SCRIPT_LIMIT (S.left source.old) (S.left source.new) }
+{
+    match read_all(alloc, source, SCRIPT_LIMIT) {
+        Ok(text) => script_of_text(alloc, text.as_slice()),
+        Err(ReadError::TooLong) => Err(Unread::Refused(TOO_LONG)),
+        Err(ReadError::Failed) => Err(Unread::Fault),
+        Err(ReadError::Memory) => Err(Unread::NoMemory),
+    }
+}
+
+// The script of a text.
+fn script_of_text(alloc: Global, text: &[u8]) -> Result<Script, Unread>
+    ensures script { IfOk result (λ script. script_of SCRIPT_LIMIT text.now ≡ Ok script) }
+    ensures refused { (fault : _) → IsErrOf result (Unread.Refused fault) → script_of SCRIPT_LIMIT text.now ≡ Err fault }
+    ensures no_fault { result ≢ Err Unread.Fault }
+{
+    match parse(alloc, text) {
+        Ok(script) => Ok(script),
+        Err(ParseError::Refused(fault)) => Err(Unread::Refused(fault)),
+        Err(ParseError::Memory) => Err(Unread::NoMemory),
+    }
+}
+
 // Prints the one line that refuses an input.
 fn refuse<K: Sink>(fault: ScriptFault, sink: &mut K) -> u8
     ensures refused { result ≡ 3 → Appends (K.taken sink.old) (K.taken sink.new) (refusal_line fault) }
     ensures sink_fault { result ≡ 6 → Rose (K.count sink.old) (K.count sink.new)
         × AppendsFront (K.taken sink.old) (K.taken sink.new) (refusal_line fault) }
+    ensures clean { result ≢ 6 → K.count sink.new ≡ K.count sink.old }
     ensures statuses { (result ≡ 3) ⊎ (result ≡ 6) }
 {
     match print_refusal(fault, sink) {
@@ -155,13 +188,16 @@ fn refuse<K: Sink>(fault: ScriptFault, sink: &mut K) -> u8
 fn run<K: Sink>(alloc: Global, script: &Script, sink: &mut K) -> u8
     ensures done { result ≡ 0 → IsOver script.now (history_of script.now)
         × Appends (K.taken sink.old) (K.taken sink.new) (report (history_of script.now))
+        × IsHistoryOf script.now (history_of script.now) × Follows script.now (history_of script.now)
         × IsReadBack (history_of script.now) }
     ensures limit { result ≡ 4 → (IsOver script.now (history_of script.now) → ⊥)
         × Appends (K.taken sink.old) (K.taken sink.new) (report_limit (history_of script.now))
+        × IsHistoryOf script.now (history_of script.now) × (length (history_of script.now) ≡ ENTRY_LIMIT)
         × IsReadBack (history_of script.now) }
     ensures memory { result ≡ 1 → sink.new ≡ sink.old }
     ensures sink_fault { result ≡ 6 → Rose (K.count sink.old) (K.count sink.new)
         × ((text : List ℕ) × Prints (Ok script.now) text × AppendsFront (K.taken sink.old) (K.taken sink.new) text) }
+    ensures clean { result ≢ 6 → K.count sink.new ≡ K.count sink.old }
     ensures statuses { (result ≡ 0) ⊎ ((result ≡ 1) ⊎ ((result ≡ 4) ⊎ (result ≡ 6))) }
 {
     let Ok((history, is_whole)) = play_out(alloc, script) else {
@@ -176,12 +212,15 @@ fn print_whole<K: Sink>(history: &History, is_whole: bool, script: &Script, sink
     requires whole { IsTrue is_whole ↔ IsOver script.now (history_of script.now) }
     ensures done { result ≡ 0 → IsOver script.now (history_of script.now)
         × Appends (K.taken sink.old) (K.taken sink.new) (report (history_of script.now))
+        × IsHistoryOf script.now (history_of script.now) × Follows script.now (history_of script.now)
         × IsReadBack (history_of script.now) }
     ensures limit { result ≡ 4 → (IsOver script.now (history_of script.now) → ⊥)
         × Appends (K.taken sink.old) (K.taken sink.new) (report_limit (history_of script.now))
+        × IsHistoryOf script.now (history_of script.now) × (length (history_of script.now) ≡ ENTRY_LIMIT)
         × IsReadBack (history_of script.now) }
     ensures sink_fault { result ≡ 6 → Rose (K.count sink.old) (K.count sink.new)
         × ((text : List ℕ) × Prints (Ok script.now) text × AppendsFront (K.taken sink.old) (K.taken sink.new) text) }
+    ensures clean { result ≢ 6 → K.count sink.new ≡ K.count sink.old }
     ensures statuses { (result ≡ 0) ⊎ ((result ≡ 4) ⊎ (result ≡ 6)) }
 {
     played_facts(script);

@@ -15,14 +15,14 @@ loop-second-init g c =
 
 pub loop-second-preserved : goal.loop-second-preserved
 loop-second-preserved g c = record {
-  pages = c.answer.ensures.board.0;
-  harts = c.answer.ensures.board.1;
-  stands = c.answer.ensures.stands;
-  epoch = omega (arith, c.answer.ensures.epoch, c.loop-second.invariant.epoch);
+  pages = c.answer-reply.ensures.board.0;
+  harts = c.answer-reply.ensures.board.1;
+  stands = c.answer-reply.ensures.stands;
+  epoch = omega (arith, c.answer-reply.ensures.epoch, c.loop-second.invariant.epoch);
 }
 
-pub answer-requires : goal.answer-requires
-answer-requires g c = record {
+pub answer-reply-requires : goal.answer-reply-requires
+answer-reply-requires g c = record {
   board = (c.loop-second.invariant.pages, c.loop-second.invariant.harts);
   stands = c.loop-second.invariant.stands;
   room = omega (arith, c.loop-second.invariant.epoch, c.loop-second.auto.second-index-end);

@@ -1,11 +1,11 @@
-use Rattle.std.proofs.Common.{◌-◌, ◌≤◌, length}
+use Rattle.std.proofs.Common.{◌≡◌, ◌-◌, ◌≤◌, length}
 use Rattle.std.specs.Io.KnownBytes.{Consumes}
 use Rattle.cove_io.proofs.whole.read_all.Given as goal
 
 abbrev pub invariant-loop-bytes : goal.invariant-loop-bytes
 invariant-loop-bytes g l = record {
   within : length l.bytes ≤ l.limit;
-  count : g.S.Source.count l.fn.source ≤ g.S.Source.count l.source;
+  clean : g.S.Source.count l.source ≡ g.S.Source.count l.fn.source;
   bytes : Consumes (g.S.Source.left l.fn.source) (g.S.Source.left l.source) l.bytes;
 }
 

@@ -13,6 +13,6 @@ loop-at-preserved g c =
     let few = rw rest at c.in_ok-at.ensures.within in
     record {
       within = omega (arith, few, length-drop at piece);
-      count = omega arith;
+      clean = cc c.in_ok-at.ensures.clean;
       bytes = writes_on _ _ _ at n piece c.loop-at.invariant.bytes taken;
     }

@@ -19,7 +19,7 @@ loop-i-preserved g c =
     let below : i < length history = slice_get_within history i entry found in
     let piece = c.as_slice.ensures.bytes ∙ c.put_line.ensures ∙ ap (λ (e : Entry). ended_line (entry_line e)) (sym (get_or_from_slice_get history i entry entry found)) in
     record {
-      count = omega (arith, c.loop-i.invariant.count, c.write_all.ensures.count);
+      clean = cc (c.loop-i.invariant.clean, c.in_ok-write_all.ensures.clean);
       taken =
           subst (Appends (g.K.Sink.taken c.args.sink.now) (g.K.Sink.taken c.write_all.new.sink)) (ap (λ line. flat_map (λ entry. ended_line (entry_line entry)) (take i history) ++ line) piece ∙ sym (pieces_more (λ entry. ended_line (entry_line entry)) history i entry below))
           (appends_both _ (g.K.Sink.taken c.loop-i.sink) _ (flat_map (λ entry. ended_line (entry_line entry)) (take i history)) c.as_slice.result.now c.loop-i.invariant.taken c.in_ok-write_all.ensures.ok);

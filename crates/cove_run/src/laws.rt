@@ -1,0 +1,39 @@
+//! Worked cases of the words that the clauses of the top call speak in.
+
+ghost use Rattle.std.specs.Prelude.{◌≡◌, ◌+◌, ◌++◌, [], Some, Ok, Err, List, ℕ, length, codes};
+ghost use Rattle.cove_base.specs.Scripts.{ScriptValue};
+ghost use Rattle.cove_base.specs.declared.faults.Kind.TheVariants.{TooLong, NotAscii, BadHeader, UnknownWord, BadNumber, WrongCount, OutOfBoard, NoEnd};
+ghost use Rattle.cove_base.specs.declared.limits.TheConstants.{SCRIPT_LIMIT};
+ghost use Rattle.cove_model.specs.Grammar.{fault_at};
+ghost use Rattle.cove_model.specs.Played.{IsOver};
+ghost use Rattle.cove_model.specs.Reports.{ended_line, report, report_limit};
+ghost use Rattle.cove_run.specs.Printing.{refusal_line};
+ghost use Rattle.cove_run.specs.TopCall.{Prints, Reads, ReadsWhole, history_of};
+
+/// The line of each kind of refusal; what is read whole and what is not; what is printed and what is not.
+pub fn worked_texts()
+    ensures too_long { refusal_line (fault_at 0 TooLong) ≡ ended_line (codes "refused 0 TooLong") }
+    ensures not_ascii { refusal_line (fault_at 1 NotAscii) ≡ ended_line (codes "refused 1 NotAscii") }
+    ensures bad_header { refusal_line (fault_at 2 BadHeader) ≡ ended_line (codes "refused 2 BadHeader") }
+    ensures unknown_word { refusal_line (fault_at 12 UnknownWord) ≡ ended_line (codes "refused 12 UnknownWord") }
+    ensures bad_number { refusal_line (fault_at 30 BadNumber) ≡ ended_line (codes "refused 30 BadNumber") }
+    ensures wrong_count { refusal_line (fault_at 404 WrongCount) ≡ ended_line (codes "refused 404 WrongCount") }
+    ensures out_of_board { refusal_line (fault_at 5678 OutOfBoard) ≡ ended_line (codes "refused 5678 OutOfBoard") }
+    ensures no_end { refusal_line (fault_at 1048577 NoEnd) ≡ ended_line (codes "refused 1048577 NoEnd") }
+
+    ensures whole { ReadsWhole (Some (codes "ab")) (Some []) (codes "ab") }
+    ensures one_left { ReadsWhole (Some (codes "ab")) (Some (codes "b")) (codes "a") → ⊥ }
+    ensures one_lost { ReadsWhole (Some (codes "ab")) (Some []) (codes "a") → ⊥ }
+    ensures nothing_read { Reads (Some []) (Some []) (Err (fault_at 1 NoEnd)) }
+    ensures at_another_line { Reads (Some []) (Some []) (Err (fault_at 2 NoEnd)) → ⊥ }
+    ensures stopped_early { (found : _) → Reads (Some (codes "ab")) (Some (codes "b")) found → ⊥ }
+    ensures one_too_many { (bytes rest : List ℕ) → length bytes ≡ SCRIPT_LIMIT + 1
+        → Reads (Some (bytes ++ rest)) (Some rest) (Err (fault_at 0 TooLong)) }
+
+    ensures prints_the_end { (script : ScriptValue) → IsOver script (history_of script)
+        → Prints (Ok script) (report (history_of script)) × (Prints (Ok script) (report_limit (history_of script)) → ⊥) }
+    ensures prints_the_limit { (script : ScriptValue) → (IsOver script (history_of script) → ⊥)
+        → Prints (Ok script) (report_limit (history_of script)) × (Prints (Ok script) (report (history_of script)) → ⊥) }
+    ensures prints_the_fault { Prints (Err (fault_at 3 BadNumber)) (ended_line (codes "refused 3 BadNumber"))
+        × (Prints (Err (fault_at 3 BadNumber)) (codes "refused 3 BadNumber") → ⊥) }
+{}
