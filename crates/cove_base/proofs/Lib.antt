@@ -1,5 +1,7 @@
 mod TextRows
+pub mod CallLemmas
 pub mod HartPlaceLemmas
+pub mod JoinedWords
 pub mod LineLinkLemmas
 pub mod ScriptLimits
 pub mod StoreLemmas

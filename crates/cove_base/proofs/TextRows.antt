@@ -1,8 +1,7 @@
 -- The meanings of text at worked rows.
 use Rattle.std.specs.Prelude.{◌≡◌, refl, true, false, [], ◌∷◌, ◌++◌, Some, None, negsuc, codes}
-use Rattle.cove_base.specs.declared.calls.HostCall.{HostCall}
-use Rattle.cove_base.specs.declared.calls.HostCall.TheVariants.{Convert, GlobalFence, LocalFence, Reclaim, Create, Region, Tables, Measured, Vcpu, Finalize, Zero, Shared, Run, Invalidate, TvmFence, Validate, Remove, Destroy, Kick, Info, Bind, Unbind, Unbound, Inject}
-use Rattle.cove_base.specs.CallWords.{word_of, arguments, call_of, call_text, is_call_word}
+use Rattle.cove_base.specs.declared.calls.HostCall.TheVariants.{Convert, Measured}
+use Rattle.cove_base.specs.CallWords.{call_of, call_text, is_call_word}
 use Rattle.cove_base.specs.Text.{text_lines, text_words}
 use Rattle.cove_base.specs.Numbers.{number_of, hex_of, number_text, decimal_text, natural_text, hex_text}
 
@@ -89,30 +88,3 @@ word_is_known = refl
 
 word_is_unknown : is_call_word (codes "ld") ≡ false
 word_is_unknown = refl
-
--- every call is read back from its word and arguments
-call_of-word_of : (call : HostCall) → call_of (word_of call) (arguments call) ≡ Some call
-call_of-word_of (Convert base n) = refl
-call_of-word_of GlobalFence = refl
-call_of-word_of LocalFence = refl
-call_of-word_of (Reclaim base n) = refl
-call_of-word_of (Create root state) = refl
-call_of-word_of (Region t gpa len) = refl
-call_of-word_of (Tables t base n) = refl
-call_of-word_of (Measured t src dst n gpa) = refl
-call_of-word_of (Vcpu t v state) = refl
-call_of-word_of (Finalize t pc arg) = refl
-call_of-word_of (Zero t base n gpa) = refl
-call_of-word_of (Shared t base n gpa) = refl
-call_of-word_of (Run t v fuel) = refl
-call_of-word_of (Invalidate t gpa n) = refl
-call_of-word_of (TvmFence t) = refl
-call_of-word_of (Validate t gpa n) = refl
-call_of-word_of (Remove t gpa n) = refl
-call_of-word_of (Destroy t) = refl
-call_of-word_of (Kick hart) = refl
-call_of-word_of Info = refl
-call_of-word_of (Bind t v hart file) = refl
-call_of-word_of (Unbind t v) = refl
-call_of-word_of (Unbound t v) = refl
-call_of-word_of (Inject t v id) = refl

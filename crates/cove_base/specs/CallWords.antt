@@ -1,62 +1,44 @@
-use Rattle.std.specs.Prelude.{ℕ, Bool, ◌==◌, ◌&&◌, List, [], ◌∷◌, ◌++◌, length, slice_index, flat_map, find, Option, codes, bytes_eq}
+use Rattle.std.specs.Prelude.{ℕ, Bool, ◌==◌, ◌&&◌, List, [], ◌∷◌, length, slice_index, map, find, Option, codes, bytes_eq}
 use Rattle.std.specs.List.{list_any}
 use Rattle.cove_base.specs.Numbers.{number_text}
+use Rattle.cove_base.specs.Text.{joined}
 use Rattle.cove_base.specs.declared.calls.HostCall.{HostCall}
 use Rattle.cove_base.specs.declared.calls.HostCall.TheVariants.{Convert, GlobalFence, LocalFence, Reclaim, Create, Region, Tables, Measured, Vcpu, Finalize, Zero, Shared, Run, Invalidate, TvmFence, Validate, Remove, Destroy, Kick, Info, Bind, Unbind, Unbound, Inject}
 
+-- a call as it is spoken: its word, and its arguments in order
+abbrev pub spoken : HostCall → List ℕ × List ℕ
+spoken (Convert base n) = (codes "convert", base ∷ n ∷ [])
+spoken GlobalFence = (codes "gfence", [])
+spoken LocalFence = (codes "lfence", [])
+spoken (Reclaim base n) = (codes "reclaim", base ∷ n ∷ [])
+spoken (Create root state) = (codes "create", root ∷ state ∷ [])
+spoken (Region t gpa len) = (codes "region", t ∷ gpa ∷ len ∷ [])
+spoken (Tables t base n) = (codes "tables", t ∷ base ∷ n ∷ [])
+spoken (Measured t src dst n gpa) = (codes "measured", t ∷ src ∷ dst ∷ n ∷ gpa ∷ [])
+spoken (Vcpu t v state) = (codes "vcpu", t ∷ v ∷ state ∷ [])
+spoken (Finalize t pc arg) = (codes "finalize", t ∷ pc ∷ arg ∷ [])
+spoken (Zero t base n gpa) = (codes "zero", t ∷ base ∷ n ∷ gpa ∷ [])
+spoken (Shared t base n gpa) = (codes "shared", t ∷ base ∷ n ∷ gpa ∷ [])
+spoken (Run t v fuel) = (codes "run", t ∷ v ∷ fuel ∷ [])
+spoken (Invalidate t gpa n) = (codes "invalidate", t ∷ gpa ∷ n ∷ [])
+spoken (TvmFence t) = (codes "tfence", t ∷ [])
+spoken (Validate t gpa n) = (codes "validate", t ∷ gpa ∷ n ∷ [])
+spoken (Remove t gpa n) = (codes "remove", t ∷ gpa ∷ n ∷ [])
+spoken (Destroy t) = (codes "destroy", t ∷ [])
+spoken (Kick hart) = (codes "kick", hart ∷ [])
+spoken Info = (codes "info", [])
+spoken (Bind t v hart file) = (codes "bind", t ∷ v ∷ hart ∷ file ∷ [])
+spoken (Unbind t v) = (codes "unbind", t ∷ v ∷ [])
+spoken (Unbound t v) = (codes "unbound", t ∷ v ∷ [])
+spoken (Inject t v id) = (codes "inject", t ∷ v ∷ id ∷ [])
+
 -- the word of a call
 abbrev pub word_of : HostCall → List ℕ
-word_of (Convert base n) = codes "convert"
-word_of GlobalFence = codes "gfence"
-word_of LocalFence = codes "lfence"
-word_of (Reclaim base n) = codes "reclaim"
-word_of (Create root state) = codes "create"
-word_of (Region t gpa len) = codes "region"
-word_of (Tables t base n) = codes "tables"
-word_of (Measured t src dst n gpa) = codes "measured"
-word_of (Vcpu t v state) = codes "vcpu"
-word_of (Finalize t pc arg) = codes "finalize"
-word_of (Zero t base n gpa) = codes "zero"
-word_of (Shared t base n gpa) = codes "shared"
-word_of (Run t v fuel) = codes "run"
-word_of (Invalidate t gpa n) = codes "invalidate"
-word_of (TvmFence t) = codes "tfence"
-word_of (Validate t gpa n) = codes "validate"
-word_of (Remove t gpa n) = codes "remove"
-word_of (Destroy t) = codes "destroy"
-word_of (Kick hart) = codes "kick"
-word_of Info = codes "info"
-word_of (Bind t v hart file) = codes "bind"
-word_of (Unbind t v) = codes "unbind"
-word_of (Unbound t v) = codes "unbound"
-word_of (Inject t v id) = codes "inject"
+word_of call = (spoken call).0
 
--- the arguments of a call, in the order of their words
+-- the arguments of a call
 abbrev pub arguments : HostCall → List ℕ
-arguments (Convert base n) = base ∷ n ∷ []
-arguments GlobalFence = []
-arguments LocalFence = []
-arguments (Reclaim base n) = base ∷ n ∷ []
-arguments (Create root state) = root ∷ state ∷ []
-arguments (Region t gpa len) = t ∷ gpa ∷ len ∷ []
-arguments (Tables t base n) = t ∷ base ∷ n ∷ []
-arguments (Measured t src dst n gpa) = t ∷ src ∷ dst ∷ n ∷ gpa ∷ []
-arguments (Vcpu t v state) = t ∷ v ∷ state ∷ []
-arguments (Finalize t pc arg) = t ∷ pc ∷ arg ∷ []
-arguments (Zero t base n gpa) = t ∷ base ∷ n ∷ gpa ∷ []
-arguments (Shared t base n gpa) = t ∷ base ∷ n ∷ gpa ∷ []
-arguments (Run t v fuel) = t ∷ v ∷ fuel ∷ []
-arguments (Invalidate t gpa n) = t ∷ gpa ∷ n ∷ []
-arguments (TvmFence t) = t ∷ []
-arguments (Validate t gpa n) = t ∷ gpa ∷ n ∷ []
-arguments (Remove t gpa n) = t ∷ gpa ∷ n ∷ []
-arguments (Destroy t) = t ∷ []
-arguments (Kick hart) = hart ∷ []
-arguments Info = []
-arguments (Bind t v hart file) = t ∷ v ∷ hart ∷ file ∷ []
-arguments (Unbind t v) = t ∷ v ∷ []
-arguments (Unbound t v) = t ∷ v ∷ []
-arguments (Inject t v id) = t ∷ v ∷ id ∷ []
+arguments call = (spoken call).1
 
 -- every kind of call, each with the first of these numbers as its arguments
 abbrev pub calls_with : List ℕ → List HostCall
@@ -88,7 +70,7 @@ calls_with args =
     ∷ Inject (arg 0) (arg 1) (arg 2)
     ∷ []
 
--- the word of a call
+-- a word is the word of a call
 abbrev pub is_call_word : List ℕ → Bool
 is_call_word word = list_any (λ call. bytes_eq word (word_of call)) (calls_with [])
 
@@ -97,6 +79,10 @@ abbrev pub call_of : (word args : List ℕ) → Option HostCall
 call_of word args =
     find (λ call. length args == length (arguments call) && bytes_eq word (word_of call)) (calls_with args)
 
--- a call as a line shows it: its word and its arguments, each after one space
+-- a call's words: its own, and its arguments
+abbrev pub call_words : HostCall → List (List ℕ)
+call_words call = word_of call ∷ map number_text (arguments call)
+
+-- a call as a line shows it
 abbrev pub call_text : HostCall → List ℕ
-call_text call = word_of call ++ flat_map (λ n. codes " " ++ number_text n) (arguments call)
+call_text call = joined (call_words call)

@@ -19,6 +19,14 @@ abbrev pub number_of : List ℕ → Option ℕ
 number_of word =
     if starts_with nat_eq word (codes "0x") then value_of_numeral 16 16 (drop 2 word) else value_of_numeral 10 20 word
 
+-- a number of a u64
+abbrev pub is_u64 : ℕ → Bool
+is_u64 n = nat_lt n (2 ^ 64)
+
+-- a number of a u8
+abbrev pub is_u8 : ℕ → Bool
+is_u8 n = nat_lt n 256
+
 -- a hex digit of either case
 abbrev pub is_hex_digit : ℕ → Bool
 is_hex_digit digit = is_digit digit 16

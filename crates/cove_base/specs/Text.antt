@@ -1,4 +1,4 @@
-use Rattle.std.specs.Prelude.{ℕ, Bool, ◌==◌, ◌||◌, List, [], ◌∷◌, ◌++◌, if◌then◌else◌}
+use Rattle.std.specs.Prelude.{ℕ, Bool, ◌==◌, ◌||◌, List, [], ◌∷◌, ◌++◌, flat_map, if◌then◌else◌}
 
 -- a space, a tab or a carriage return
 abbrev pub is_blank : ℕ → Bool
@@ -32,3 +32,12 @@ words_from piece (byte ∷ rest) =
 -- the words of a line
 abbrev pub text_words : List ℕ → List (List ℕ)
 text_words line = words_from [] line
+
+-- a word after a space
+abbrev pub spaced : List ℕ → List ℕ
+spaced word = 32 ∷ word
+
+-- words with one space between them
+abbrev pub joined : List (List ℕ) → List ℕ
+joined [] = []
+joined (first ∷ words) = first ++ flat_map spaced words

@@ -1,23 +1,18 @@
 -- Bytes that were written in hex are read back.
-use Rattle.std.proofs.Common.{◌≡◌, ℕ, zero, suc, ◌+◌, ◌*◌, ◌/◌, ◌%◌, ◌^◌, ◌<◌, Bool, true, false, List, [], ◌∷◌, length, get_or, Some, None, option_map, Ok, cond, codes, bytes_eq, refl, ap, ◌∙◌, arith}
+use Rattle.std.proofs.Common.{◌≡◌, ℕ, zero, suc, ◌+◌, ◌*◌, ◌/◌, ◌%◌, ◌^◌, ◌<◌, Bool, true, false, List, [], ◌∷◌, length, get_or, Some, None, option_map, Ok, codes, bytes_eq, refl, ap, ◌∙◌, arith}
 use Rattle.std.specs.Char.{digit_char, digit_value}
 use Rattle.std.specs.Int.{bytes_high_first, from_be_bytes, to_be_bytes, w64}
 use Rattle.std.specs.List.{list_all}
 use Rattle.std.specs.Result.{result_ok}
 use Rattle.std.proofs.lemmas.Bool.{and_parts, cond-true, eq-eqb, ltb-true, ne_eqb}
-use Rattle.std.proofs.lemmas.Bool.Decides.{nat_tests}
 use Rattle.std.proofs.lemmas.Nat.{from_be_bytes-to_be_bytes_8}
 use Rattle.std.proofs.lemmas.Slice.Eq.{bytes_eq-Decides}
-use Rattle.cove_base.specs.Numbers.{hex_text, is_hex_digit}
 use Rattle.cove_base.specs.EventWords.{word_text}
-use Rattle.cove_text.proofs.HexDigits.{length-hex_text}
+use Rattle.cove_text.proofs.HexDigits.{hex_digit_value-is, length-hex_text}
 use Rattle.cove_text.proofs.Numerals.{digit_value-digit_char, is_digit-digit_char}
 use Rattle.hex.specs.Hex.{decode_pairs, decode_sized, hex_digit_value}
-use Rattle.cove_journal.specs.Forms.{is_byte, is_word}
+use Rattle.cove_base.specs.Numbers.{hex_text, is_hex_digit, is_u8, is_u64}
 use Rattle.cove_journal.specs.Reading.{memory_word_of, quote_of}
-
-hex_digit_value-is : (c : ℕ) → hex_digit_value c ≡ cond (is_hex_digit c) (Some (digit_value c)) None
-hex_digit_value-is c = grind (arith, nat_tests)
 
 hex_digit_value-written : (d : ℕ) → d < 16 → hex_digit_value (digit_char d) ≡ Some d
 hex_digit_value-written d small =
@@ -55,10 +50,10 @@ decode_sized-hex_text bytes n len small =
 pub quote_is_read : (quote : List ℕ) → length quote ≡ 360 → ((k : ℕ) → get_or quote k 0 < 256) → quote_of (hex_text quote) ≡ Some quote
 quote_is_read quote len small = decode_sized-hex_text quote 360 len small
 
-pub bytes_are_small : (bytes : List ℕ) → list_all is_byte bytes ≡ true → (k : ℕ) → get_or bytes k 0 < 256
+pub bytes_are_small : (bytes : List ℕ) → list_all is_u8 bytes ≡ true → (k : ℕ) → get_or bytes k 0 < 256
 bytes_are_small [] all k = omega arith
-bytes_are_small (byte ∷ bytes) all zero = ltb-true byte 256 (and_parts (is_byte byte) (list_all is_byte bytes) all).0
-bytes_are_small (byte ∷ bytes) all (suc k) = bytes_are_small bytes (and_parts (is_byte byte) (list_all is_byte bytes) all).1 k
+bytes_are_small (byte ∷ bytes) all zero = ltb-true byte 256 (and_parts (is_u8 byte) (list_all is_u8 bytes) all).0
+bytes_are_small (byte ∷ bytes) all (suc k) = bytes_are_small bytes (and_parts (is_u8 byte) (list_all is_u8 bytes) all).1 k
 
 -- ---- words of memory
 
@@ -74,12 +69,12 @@ bytes_high_first-small (suc k) n (suc i) = bytes_high_first-small k n i
 pub word_bytes_are_small : (n k : ℕ) → get_or (to_be_bytes w64 n) k 0 < 256
 word_bytes_are_small n k = bytes_high_first-small 8 n k
 
-pub memory_word_is_read : (value : ℕ) → is_word value ≡ true → memory_word_of (word_text value) ≡ Some value
+pub memory_word_is_read : (value : ℕ) → is_u64 value ≡ true → memory_word_of (word_text value) ≡ Some value
 memory_word_is_read value fits =
     ap (option_map (from_be_bytes w64)) (decode_sized-hex_text (to_be_bytes w64 value) 8 refl (word_bytes_are_small value))
     ∙ ap Some (from_be_bytes-to_be_bytes_8 value (ltb-true value (2 ^ 64) fits))
 
-false_where_absurd : (b : Bool) → (b ≡ true → ⊥) → b ≡ false
+pub false_where_absurd : (b : Bool) → (b ≡ true → ⊥) → b ≡ false
 false_where_absurd true no_ = absurd (no_ refl)
 false_where_absurd false no_ = refl
 

@@ -1,6 +1,4 @@
-pub mod CallsRead
+pub mod EventsRead
 pub mod HexRead
-pub mod JournalLines
 pub mod JournalsRead
-pub mod LinesRead
-pub mod SizesRead
+pub mod WordsAfter

@@ -1,8 +1,9 @@
 -- The words of a line, read from left to right without a look at their spelling.
-use Rattle.std.specs.Prelude.{ℕ, ◌/◌, ◌==◌, nat_lt, List, [], ◌∷◌, ◌++◌, length, Option, Some, None, option_map, option_and_then, codes, bytes_eq, if◌then◌else◌}
+use Rattle.std.specs.Prelude.{ℕ, ◌/◌, ◌==◌, ◌&&◌, nat_lt, List, [], ◌∷◌, ◌++◌, length, slice_index, find, Option, Some, None, option_map, option_and_then, codes, bytes_eq, if◌then◌else◌}
 use Rattle.std.specs.Int.{from_be_bytes, w64}
 use Rattle.std.specs.Result.{result_ok}
 use Rattle.cove_base.specs.CallWords.{call_of}
+use Rattle.cove_base.specs.EventWords.{act_arguments, act_word, how_text, status_text}
 use Rattle.cove_base.specs.Numbers.{number_of}
 use Rattle.cove_base.specs.Statuses.{is_success}
 use Rattle.cove_base.specs.declared.calls.GuestAct.{GuestAct}
@@ -20,24 +21,15 @@ use Rattle.cove_base.specs.declared.statuses.Status.{Status}
 use Rattle.cove_base.specs.declared.statuses.Status.TheVariants.{Success, Failed, NotSupported, InvalidParam, Denied, InvalidAddress, AlreadyAvailable, AlreadyStarted, AlreadyStopped}
 use Rattle.hex.specs.Hex.{decode_sized}
 
+-- how an access came to its page
 abbrev pub how_of : List ℕ → Option How
-how_of word =
-    if bytes_eq word (codes "hit") then Some Hit
-    else if bytes_eq word (codes "walk") then Some Walk
-    else None
+how_of word = find (λ how. bytes_eq word (how_text how)) (Hit ∷ Walk ∷ [])
 
+-- the status of a code
 abbrev pub status_of : List ℕ → Option Status
 status_of word =
-    if bytes_eq word (codes "0") then Some Success
-    else if bytes_eq word (codes "-1") then Some Failed
-    else if bytes_eq word (codes "-2") then Some NotSupported
-    else if bytes_eq word (codes "-3") then Some InvalidParam
-    else if bytes_eq word (codes "-4") then Some Denied
-    else if bytes_eq word (codes "-5") then Some InvalidAddress
-    else if bytes_eq word (codes "-6") then Some AlreadyAvailable
-    else if bytes_eq word (codes "-7") then Some AlreadyStarted
-    else if bytes_eq word (codes "-8") then Some AlreadyStopped
-    else None
+    find (λ status. bytes_eq word (status_text status))
+    (Success ∷ Failed ∷ NotSupported ∷ InvalidParam ∷ Denied ∷ InvalidAddress ∷ AlreadyAvailable ∷ AlreadyStarted ∷ AlreadyStopped ∷ [])
 
 -- 16 hex digits
 abbrev pub memory_word_of : List ℕ → Option ℕ
@@ -76,26 +68,25 @@ abbrev pub exec_of : List (List ℕ) → Option Event
 exec_of [] = Some events.Exec
 exec_of (how ∷ words) = option_map (λ h. events.Access h) (how_of how)
 
--- what a guest asks for, and the words after it
-abbrev pub ranged_of : (ℕ → ℕ → GuestAct) → List (List ℕ) → Option (GuestAct × List (List ℕ))
-ranged_of act (gpa ∷ len ∷ words) = option_and_then (λ g. option_map (λ l. (act g l, words)) (number_of len)) (number_of gpa)
-ranged_of act words = None
+-- the arguments up to `=`, five at most, and the words after it
+abbrev pub arguments_of : (args : List ℕ) → List (List ℕ) → Option (List ℕ × List (List ℕ))
+arguments_of args [] = None
+arguments_of args (word ∷ words) =
+    if bytes_eq word (codes "=") then Some (args, words)
+    else if length args == 5 then None
+    else option_and_then (λ n. arguments_of (args ++ n ∷ []) words) (number_of word)
 
-abbrev pub identified_of : (ℕ → GuestAct) → List (List ℕ) → Option (GuestAct × List (List ℕ))
-identified_of act (id ∷ words) = option_map (λ i. (act i, words)) (number_of id)
-identified_of act [] = None
+-- every act of a guest, each with the first of these numbers as its arguments
+abbrev pub acts_with : List ℕ → List GuestAct
+acts_with args =
+    let arg : ℕ → ℕ = λ i. slice_index args i in
+    acts.Share (arg 0) (arg 1) ∷ acts.Unshare (arg 0) (arg 1) ∷ acts.Extend ∷ acts.Evidence
+    ∷ acts.Allow (arg 0) ∷ acts.Deny (arg 0) ∷ acts.Other ∷ []
 
-abbrev pub act_of : List (List ℕ) → Option (GuestAct × List (List ℕ))
-act_of [] = None
-act_of (name ∷ words) =
-    if bytes_eq name (codes "share") then ranged_of (λ gpa len. acts.Share gpa len) words
-    else if bytes_eq name (codes "unshare") then ranged_of (λ gpa len. acts.Unshare gpa len) words
-    else if bytes_eq name (codes "allow") then identified_of (λ id. acts.Allow id) words
-    else if bytes_eq name (codes "deny") then identified_of (λ id. acts.Deny id) words
-    else if bytes_eq name (codes "extend") then Some (acts.Extend, words)
-    else if bytes_eq name (codes "evidence") then Some (acts.Evidence, words)
-    else if bytes_eq name (codes "other") then Some (acts.Other, words)
-    else None
+-- the act of a word and its arguments: none where the word is no act's or has another number of arguments
+abbrev pub act_of : (word args : List ℕ) → Option GuestAct
+act_of word args =
+    find (λ act. length args == length (act_arguments act) && bytes_eq word (act_word act)) (acts_with args)
 
 -- the 360 bytes of a quote
 abbrev pub quote_of : List ℕ → Option (List ℕ)
@@ -109,13 +100,14 @@ abbrev pub answered_of : GuestAct → Reply → List (List ℕ) → Option Event
 answered_of acts.Evidence reply words = if is_success reply.status then quoted_of words else Some (events.Guest acts.Evidence reply)
 answered_of act reply words = Some (events.Guest act reply)
 
--- an act's answer, after `=`
-abbrev pub asked_of : GuestAct → List (List ℕ) → Option Event
-asked_of act [] = None
-asked_of act (equals ∷ words) = option_and_then (λ parts. answered_of act parts.0 parts.1) (answer_of words)
+-- an act's answer
+abbrev pub acted_of : GuestAct → List (List ℕ) → Option Event
+acted_of act words = option_and_then (λ parts. answered_of act parts.0 parts.1) (answer_of words)
 
 abbrev pub guest_of : List (List ℕ) → Option Event
-guest_of words = option_and_then (λ parts. asked_of parts.0 parts.1) (act_of words)
+guest_of [] = None
+guest_of (word ∷ words) =
+    option_and_then (λ parts. option_and_then (λ act. acted_of act parts.1) (act_of word parts.0)) (arguments_of [] words)
 
 abbrev pub fault_of : List (List ℕ) → Option Exit
 fault_of (cause ∷ addr ∷ words) =
@@ -136,14 +128,6 @@ exit_of (name ∷ words) =
     else if bytes_eq name (codes "trap") then trap_of words
     else None
 
--- the arguments of a call up to `=`, five at most, and the words after it
-abbrev pub arguments_of : (args : List ℕ) → List (List ℕ) → Option (List ℕ × List (List ℕ))
-arguments_of args [] = None
-arguments_of args (word ∷ words) =
-    if bytes_eq word (codes "=") then Some (args, words)
-    else if length args == 5 then None
-    else option_and_then (λ n. arguments_of (args ++ n ∷ []) words) (number_of word)
-
 abbrev pub made_of : HostCall → List (List ℕ) → Option Event
 made_of call words = option_map (λ parts. events.Call call parts.0) (answer_of words)
 
@@ -151,6 +135,14 @@ abbrev pub call_event_of : List ℕ → List (List ℕ) → Option Event
 call_event_of word words =
     option_and_then (λ parts. option_and_then (λ call. made_of call parts.1) (call_of word parts.0)) (arguments_of [] words)
 
+-- what the monitor was asked for, or why a guest was left
+abbrev pub asked_of : List ℕ → List (List ℕ) → Option Event
+asked_of name words =
+    if bytes_eq name (codes "guest") then guest_of words
+    else if bytes_eq name (codes "exit") then option_map (λ exit. events.Exit exit) (exit_of words)
+    else call_event_of name words
+
+-- the event that words name
 abbrev pub event_of : List (List ℕ) → Option Event
 event_of [] = None
 event_of (name ∷ words) =
@@ -158,9 +150,7 @@ event_of (name ∷ words) =
     else if bytes_eq name (codes "sd") then store_of words
     else if bytes_eq name (codes "fetch") then fetch_of words
     else if bytes_eq name (codes "exec") then exec_of words
-    else if bytes_eq name (codes "guest") then guest_of words
-    else if bytes_eq name (codes "exit") then option_map (λ exit. events.Exit exit) (exit_of words)
-    else call_event_of name words
+    else asked_of name words
 
 -- the entry that the words of a line name
 abbrev pub entry_of : List (List ℕ) → Option Entry

@@ -1,5 +1,5 @@
-ghost use Rattle.std.specs.Prelude.{◌≡◌, option_map};
-ghost use Rattle.cove_journal.specs.Reading.{act_of, answer_of, arguments_of, call_event_of, entry_of, event_of, exec_of, exit_of, fault_of, fetch_of, guest_of, how_of, load_of, memory_word_of, quote_of, quoted_of, status_of, store_of, trap_of};
+ghost use Rattle.std.specs.Prelude.{◌≡◌, ◌∷◌, [], option_map};
+ghost use Rattle.cove_journal.specs.Reading.{act_of, acted_of, answer_of, arguments_of, asked_of, call_event_of, entry_of, event_of, exec_of, exit_of, fault_of, fetch_of, guest_of, how_of, load_of, load_with, memory_word_of, quote_of, quoted_of, status_of, store_of, store_with, trap_of};
 ghost use Rattle.cove_base.specs.Text.{text_words};
 
 use arrayvec::ArrayVec;
@@ -71,53 +71,19 @@ fn read_answer(words: &mut WordIter<'_>) -> Option<Reply>
     })
 }
 
-fn read_act(words: &mut WordIter<'_>) -> Option<GuestAct>
-    ensures { option_map (λ act. (act, words.new)) result ≡ act_of words.old }
-{
-    let name = words.next()?;
-    if name == b"share".as_slice() {
-        let gpa = words.next()?;
-        let len = words.next()?;
-        return Some(GuestAct::Share {
-            gpa: read_number(gpa)?,
-            len: read_number(len)?,
-        });
-    }
-    if name == b"unshare".as_slice() {
-        let gpa = words.next()?;
-        let len = words.next()?;
-        return Some(GuestAct::Unshare {
-            gpa: read_number(gpa)?,
-            len: read_number(len)?,
-        });
-    }
-    if name == b"allow".as_slice() {
-        let id = read_number(words.next()?)?;
-        return Some(GuestAct::Allow { id });
-    }
-    if name == b"deny".as_slice() {
-        let id = read_number(words.next()?)?;
-        return Some(GuestAct::Deny { id });
-    }
-    if name == b"extend".as_slice() {
-        return Some(GuestAct::Extend);
-    }
-    if name == b"evidence".as_slice() {
-        return Some(GuestAct::Evidence);
-    }
-    if name == b"other".as_slice() {
-        return Some(GuestAct::Other);
-    }
-    None
-}
-
 fn read_load(words: &mut WordIter<'_>) -> Option<Event>
     ensures { result ≡ load_of words.old }
 {
     let addr = words.next()?;
     let how = words.next()?;
     let last = words.next()?;
-    let addr = read_number(addr)?;
+    load_with(read_number(addr)?, how, last)
+}
+
+// A load from an address, by its last two words.
+fn load_with(addr: u64, how: &[u8], last: &[u8]) -> Option<Event>
+    ensures { result ≡ load_with addr how.now last.now }
+{
     if last == b"fault".as_slice() {
         return Some(Event::LoadFault { addr });
     }
@@ -135,8 +101,13 @@ fn read_store(words: &mut WordIter<'_>) -> Option<Event>
     let value = words.next()?;
     let how = words.next()?;
     let last = words.next()?;
-    let addr = read_number(addr)?;
-    let value = read_number(value)?;
+    store_with(read_number(addr)?, read_number(value)?, how, last)
+}
+
+// A store to an address, by its last two words.
+fn store_with(addr: u64, value: u64, how: &[u8], last: &[u8]) -> Option<Event>
+    ensures { result ≡ store_with addr value how.now last.now }
+{
     if last == b"fault".as_slice() {
         return Some(Event::StoreFault { addr, value });
     }
@@ -187,13 +158,76 @@ fn read_quoted(words: &mut WordIter<'_>) -> Option<Event>
 fn read_guest(words: &mut WordIter<'_>) -> Option<Event>
     ensures { result ≡ guest_of words.old }
 {
-    let act = read_act(words)?;
-    let _equals = words.next()?;
+    let name = words.next()?;
+    let mut args = ArrayVec::<u64, 5>::new();
+    read_arguments(words, &mut args)?;
+    let act = act_of(name, args.as_slice())?;
+    read_acted(act, words)
+}
+
+// The answer of a guest's act.
+fn read_acted(act: GuestAct, words: &mut WordIter<'_>) -> Option<Event>
+    ensures { result ≡ acted_of act words.old }
+{
     let reply = read_answer(words)?;
     match (act, reply.status) {
         (GuestAct::Evidence, Status::Success) => read_quoted(words),
         _ => Some(Event::Guest { act, reply }),
     }
+}
+
+// The act of a word and its arguments.
+fn act_of(word: &[u8], args: &[u64]) -> Option<GuestAct>
+    ensures { result ≡ act_of word.now args.now }
+{
+    match args {
+        [] => act_of_none(word),
+        [id] => act_of_one(word, *id),
+        [gpa, len] => act_of_two(word, *gpa, *len),
+        _ => None,
+    }
+}
+
+// The act of a word with no argument.
+fn act_of_none(word: &[u8]) -> Option<GuestAct>
+    ensures { result ≡ act_of word.now [] }
+{
+    if word == b"extend".as_slice() {
+        return Some(GuestAct::Extend);
+    }
+    if word == b"evidence".as_slice() {
+        return Some(GuestAct::Evidence);
+    }
+    if word == b"other".as_slice() {
+        return Some(GuestAct::Other);
+    }
+    None
+}
+
+// The act of a word with one argument.
+fn act_of_one(word: &[u8], id: u64) -> Option<GuestAct>
+    ensures { result ≡ act_of word.now (id ∷ []) }
+{
+    if word == b"allow".as_slice() {
+        return Some(GuestAct::Allow { id });
+    }
+    if word == b"deny".as_slice() {
+        return Some(GuestAct::Deny { id });
+    }
+    None
+}
+
+// The act of a word with two arguments.
+fn act_of_two(word: &[u8], gpa: u64, len: u64) -> Option<GuestAct>
+    ensures { result ≡ act_of word.now (gpa ∷ len ∷ []) }
+{
+    if word == b"share".as_slice() {
+        return Some(GuestAct::Share { gpa, len });
+    }
+    if word == b"unshare".as_slice() {
+        return Some(GuestAct::Unshare { gpa, len });
+    }
+    None
 }
 
 fn read_exit(words: &mut WordIter<'_>) -> Option<Exit>
@@ -286,6 +320,13 @@ fn read_event(words: &mut WordIter<'_>) -> Option<Event>
     if name == b"exec".as_slice() {
         return read_exec(words);
     }
+    read_asked(name, words)
+}
+
+// What the monitor was asked for, or why a guest was left.
+fn read_asked(name: &[u8], words: &mut WordIter<'_>) -> Option<Event>
+    ensures { result ≡ asked_of name.now words.old }
+{
     if name == b"guest".as_slice() {
         return read_guest(words);
     }

@@ -1,11 +1,13 @@
-ghost use Rattle.std.specs.Prelude.{◌≡◌, ◌+◌, ◌*◌, ◌<◌, ◌≤◌, ◌++◌, length, IsTrue};
-ghost use Rattle.cove_base.specs.Numbers.{hex_text, number_text};
+ghost use Rattle.std.specs.Prelude.{◌≡◌, ◌+◌, ◌*◌, ◌^◌, ◌<◌, ◌≤◌, ◌∷◌, [], ◌++◌, length, IsTrue};
+ghost use Rattle.cove_base.specs.Numbers.{hex_text, natural_text, number_text};
+ghost use Rattle.cove_base.specs.Text.{spaced};
 ghost use Rattle.cove_base.specs.declared.events.Event.TheVariants as events;
-ghost use Rattle.cove_base.specs.EventWords.{act_text, exit_text, how_text, reply_text, spaced, word_text};
-ghost use Rattle.cove_model.specs.Reports.{entry_line, event_text};
-ghost use Rattle.cove_journal.specs.Lines.{is_addressable, is_writable, last_line_of};
+ghost use Rattle.cove_base.specs.declared.events.Exit.TheVariants as exits;
+ghost use Rattle.cove_base.specs.EventWords.{act_words, event_words, exit_words, how_text, reply_words, word_text};
+ghost use Rattle.cove_model.specs.Reports.{entry_line};
+ghost use Rattle.cove_journal.specs.Lines.{is_addressable, is_writable, last_line_of, words_after};
 
-use cove_base::{Entry, Event, Exit, GuestAct, How, QUOTE_LIMIT, Reply};
+use cove_base::{Entry, Event, Exit, Gpn, GuestAct, HostCall, How, QUOTE_LIMIT, Reply};
 use cove_text::{LINE_LIMIT, LineBuf, put_call, put_decimal, put_hex, put_number};
 
 /// Writes the line of an entry in place of what the buffer held, without a line feed. The page of a fault is one
@@ -16,8 +18,7 @@ pub fn line(entry: &Entry, out: &mut LineBuf)
     ensures room { length out.new < LINE_LIMIT }
 {
     out.clear();
-    put_decimal(out, i64::from(entry.hart.0));
-    out.push(b' ');
+    put_natural(out, entry.hart.0);
     put_event(out, &entry.event);
 }
 
@@ -37,67 +38,66 @@ pub fn last_line(n: u32, whole: bool, out: &mut LineBuf)
     put_decimal(out, i64::from(n));
 }
 
+// Appends the words of an event, each after a space, as all below.
 fn put_event(out: &mut LineBuf, event: &Event)
     requires writable { IsTrue (is_writable event.now) }
-    requires room { length out.old ≤ 21 }
-    ensures text { out.new ≡ out.old ++ event_text event.now }
+    requires room { length out.old ≤ 20 }
+    ensures text { out.new ≡ words_after out.old (event_words event.now) }
     ensures fits { length out.new < LINE_LIMIT }
 {
     match event {
-        Event::Call { call, reply } => {
-            put_call(out, call);
-            put_reply(out, *reply);
-        }
+        Event::Call { call, reply } => put_answered_call(out, call, *reply),
         Event::Load { addr, how, value } => put_load(out, *addr, *how, *value),
         Event::LoadFault { addr } => put_load_fault(out, *addr),
         Event::Store { addr, value, how } => put_store(out, *addr, *value, *how),
         Event::StoreFault { addr, value } => put_store_fault(out, *addr, *value),
-        Event::Fetch { how } => {
-            out.put_bytes(b"fetch");
-            put_how(out, *how);
-        }
-        Event::Exec => out.put_bytes(b"exec"),
-        Event::Access { how } => {
-            out.put_bytes(b"exec");
-            put_how(out, *how);
-        }
-        Event::Guest { act, reply } => {
-            out.put_bytes(b"guest");
-            put_act(out, *act);
-            put_reply(out, *reply);
-        }
+        Event::Fetch { how } => put_step(out, b"fetch", *how),
+        Event::Exec => put_word(out, b"exec"),
+        Event::Access { how } => put_step(out, b"exec", *how),
+        Event::Guest { act, reply } => put_guest(out, *act, *reply),
         Event::Evidence { quote } => put_evidence(out, quote.as_slice()),
         Event::Exit { exit } => put_exit(out, *exit),
     }
 }
 
-fn put_load(out: &mut LineBuf, addr: u64, how: How, value: u64)
-    requires { length out.old ≤ 21 }
-    ensures text { out.new ≡ out.old ++ event_text (events.Load addr how value) }
+fn put_answered_call(out: &mut LineBuf, call: &HostCall, reply: Reply)
+    requires { length out.old ≤ 20 }
+    ensures text { out.new ≡ words_after out.old (event_words (events.Call call.now reply)) }
     ensures fits { length out.new < LINE_LIMIT }
 {
-    out.put_bytes(b"ld");
+    out.push(b' ');
+    put_call(out, call);
+    put_reply(out, reply);
+}
+
+fn put_load(out: &mut LineBuf, addr: u64, how: How, value: u64)
+    requires { length out.old ≤ 20 }
+    ensures text { out.new ≡ words_after out.old (event_words (events.Load addr how value)) }
+    ensures fits { length out.new < LINE_LIMIT }
+{
+    put_word(out, b"ld");
     put_spaced(out, addr);
     put_how(out, how);
     put_memory_word(out, value);
 }
 
 fn put_load_fault(out: &mut LineBuf, addr: u64)
-    requires { length out.old ≤ 21 }
-    ensures text { out.new ≡ out.old ++ event_text (events.LoadFault addr) }
+    requires { length out.old ≤ 20 }
+    ensures text { out.new ≡ words_after out.old (event_words (events.LoadFault addr)) }
     ensures fits { length out.new < LINE_LIMIT }
 {
-    out.put_bytes(b"ld");
+    put_word(out, b"ld");
     put_spaced(out, addr);
-    put_word(out, b"walk fault");
+    put_word(out, b"walk");
+    put_word(out, b"fault");
 }
 
 fn put_store(out: &mut LineBuf, addr: u64, value: u64, how: How)
-    requires { length out.old ≤ 21 }
-    ensures text { out.new ≡ out.old ++ event_text (events.Store addr value how) }
+    requires { length out.old ≤ 20 }
+    ensures text { out.new ≡ words_after out.old (event_words (events.Store addr value how)) }
     ensures fits { length out.new < LINE_LIMIT }
 {
-    out.put_bytes(b"sd");
+    put_word(out, b"sd");
     put_spaced(out, addr);
     put_spaced(out, value);
     put_how(out, how);
@@ -105,87 +105,146 @@ fn put_store(out: &mut LineBuf, addr: u64, value: u64, how: How)
 }
 
 fn put_store_fault(out: &mut LineBuf, addr: u64, value: u64)
-    requires { length out.old ≤ 21 }
-    ensures text { out.new ≡ out.old ++ event_text (events.StoreFault addr value) }
+    requires { length out.old ≤ 20 }
+    ensures text { out.new ≡ words_after out.old (event_words (events.StoreFault addr value)) }
     ensures fits { length out.new < LINE_LIMIT }
 {
-    out.put_bytes(b"sd");
+    put_word(out, b"sd");
     put_spaced(out, addr);
     put_spaced(out, value);
-    put_word(out, b"walk fault");
+    put_word(out, b"walk");
+    put_word(out, b"fault");
+}
+
+// A word, and how its access came to the page.
+fn put_step(out: &mut LineBuf, word: &[u8], how: How)
+    requires room { length out.old ≤ 20 }
+    requires short { length word.now ≤ 8 }
+    ensures text { out.new ≡ words_after out.old (word.now ∷ how_text how ∷ []) }
+    ensures fits { length out.new < LINE_LIMIT }
+{
+    put_word(out, word);
+    put_how(out, how);
+}
+
+fn put_guest(out: &mut LineBuf, act: GuestAct, reply: Reply)
+    requires { length out.old ≤ 20 }
+    ensures text { out.new ≡ words_after out.old (event_words (events.Guest act reply)) }
+    ensures fits { length out.new < LINE_LIMIT }
+{
+    put_word(out, b"guest");
+    put_act(out, act);
+    put_reply(out, reply);
 }
 
 fn put_evidence(out: &mut LineBuf, quote: &[u8])
-    requires room { length out.old ≤ 21 }
+    requires room { length out.old ≤ 20 }
     requires short { length quote.now ≤ QUOTE_LIMIT }
-    ensures text { out.new ≡ out.old ++ event_text (events.Evidence quote.now) }
+    ensures text { out.new ≡ words_after out.old (event_words (events.Evidence quote.now)) }
     ensures fits { length out.new < LINE_LIMIT }
 {
-    out.put_bytes(b"guest evidence = 0 0x168");
+    put_word(out, b"guest");
+    put_word(out, b"evidence");
+    put_word(out, b"=");
+    put_word(out, b"0");
+    put_word(out, b"0x168");
     put_hex_word(out, quote);
 }
 
-// Appends a guest's act and its arguments, after a space.
 fn put_act(out: &mut LineBuf, act: GuestAct)
     requires { length out.old ≤ 30 }
-    ensures text { out.new ≡ out.old ++ spaced (act_text act) }
+    ensures text { out.new ≡ words_after out.old (act_words act) }
     ensures room { length out.new ≤ length out.old + 60 }
 {
     match act {
-        GuestAct::Share { gpa, len } => {
-            put_word(out, b"share");
-            put_spaced(out, gpa);
-            put_spaced(out, len);
-        }
-        GuestAct::Unshare { gpa, len } => {
-            put_word(out, b"unshare");
-            put_spaced(out, gpa);
-            put_spaced(out, len);
-        }
+        GuestAct::Share { gpa, len } => put_range(out, b"share", gpa, len),
+        GuestAct::Unshare { gpa, len } => put_range(out, b"unshare", gpa, len),
         GuestAct::Extend => put_word(out, b"extend"),
         GuestAct::Evidence => put_word(out, b"evidence"),
-        GuestAct::Allow { id } => {
-            put_word(out, b"allow");
-            put_spaced(out, id);
-        }
-        GuestAct::Deny { id } => {
-            put_word(out, b"deny");
-            put_spaced(out, id);
-        }
+        GuestAct::Allow { id } => put_identity(out, b"allow", id),
+        GuestAct::Deny { id } => put_identity(out, b"deny", id),
         GuestAct::Other => put_word(out, b"other"),
     }
 }
 
+// A word and two numbers.
+fn put_range(out: &mut LineBuf, word: &[u8], gpa: u64, len: u64)
+    requires place { length out.old ≤ 30 }
+    requires short { length word.now ≤ 8 }
+    ensures text { out.new ≡ words_after out.old (word.now ∷ number_text gpa ∷ number_text len ∷ []) }
+    ensures room { length out.new ≤ length out.old + 60 }
+{
+    put_word(out, word);
+    put_spaced(out, gpa);
+    put_spaced(out, len);
+}
+
+// A word and a number.
+fn put_identity(out: &mut LineBuf, word: &[u8], id: u64)
+    requires place { length out.old ≤ 30 }
+    requires short { length word.now ≤ 8 }
+    ensures text { out.new ≡ words_after out.old (word.now ∷ number_text id ∷ []) }
+    ensures room { length out.new ≤ length out.old + 60 }
+{
+    put_word(out, word);
+    put_spaced(out, id);
+}
+
 fn put_exit(out: &mut LineBuf, exit: Exit)
     requires writable { IsTrue (is_addressable exit) }
-    requires room { length out.old ≤ 21 }
-    ensures text { out.new ≡ out.old ++ event_text (events.Exit exit) }
+    requires room { length out.old ≤ 20 }
+    ensures text { out.new ≡ words_after out.old (event_words (events.Exit exit)) }
     ensures fits { length out.new < LINE_LIMIT }
 {
-    out.put_bytes(b"exit");
+    put_word(out, b"exit");
     match exit {
         Exit::Fuel => put_word(out, b"fuel"),
         Exit::Kicked => put_word(out, b"kicked"),
         Exit::Wfi => put_word(out, b"wfi"),
-        Exit::Fault { cause, page } => {
-            put_word(out, b"fault ");
-            put_decimal(out, i64::from(cause));
-            put_spaced(out, page.0 * 4096);
-        }
-        Exit::Trap { cause } => {
-            put_word(out, b"trap ");
-            put_decimal(out, i64::from(cause));
-        }
+        Exit::Fault { cause, page } => put_fault(out, cause, page),
+        Exit::Trap { cause } => put_cause(out, b"trap", cause),
     }
 }
 
-// Appends an answer after a space.
+// A fault's cause and its address.
+fn put_fault(out: &mut LineBuf, cause: u8, page: Gpn)
+    requires writable { page.0 < 2 ^ 52 }
+    requires room { length out.old ≤ 30 }
+    ensures text { out.new ≡ words_after out.old (exit_words (exits.Fault cause page)) }
+    ensures room { length out.new ≤ length out.old + 60 }
+{
+    put_cause(out, b"fault", cause);
+    put_spaced(out, page.0 * 4096);
+}
+
+// A word and a cause.
+fn put_cause(out: &mut LineBuf, word: &[u8], cause: u8)
+    requires room { length out.old ≤ 30 }
+    requires short { length word.now ≤ 8 }
+    ensures text { out.new ≡ words_after out.old (word.now ∷ natural_text cause ∷ []) }
+    ensures room { length out.new ≤ length out.old + 40 }
+{
+    put_word(out, word);
+    out.push(b' ');
+    put_natural(out, cause);
+}
+
+// Appends a number in decimal, without a space.
+fn put_natural(out: &mut LineBuf, number: u8)
+    requires { length out.old ≤ 50 }
+    ensures text { out.new ≡ out.old ++ natural_text number }
+    ensures room { length out.new ≤ length out.old + 20 }
+{
+    put_decimal(out, i64::from(number));
+}
+
 fn put_reply(out: &mut LineBuf, reply: Reply)
     requires { length out.old ≤ 150 }
-    ensures text { out.new ≡ out.old ++ spaced (reply_text reply) }
+    ensures text { out.new ≡ words_after out.old (reply_words reply) }
     ensures room { length out.new ≤ length out.old + 50 }
 {
-    put_word(out, b"= ");
+    put_word(out, b"=");
+    out.push(b' ');
     put_decimal(out, reply.status.code());
     put_spaced(out, reply.value);
 }
@@ -201,7 +260,6 @@ fn put_how(out: &mut LineBuf, how: How)
     }
 }
 
-// Appends a word of memory after a space.
 fn put_memory_word(out: &mut LineBuf, value: u64)
     requires { length out.old ≤ 200 }
     ensures text { out.new ≡ out.old ++ spaced (word_text value) }
@@ -210,7 +268,6 @@ fn put_memory_word(out: &mut LineBuf, value: u64)
     put_hex_word(out, &value.to_be_bytes());
 }
 
-// Appends bytes in hex after a space.
 fn put_hex_word(out: &mut LineBuf, bytes: &[u8])
     requires { length out.old + 2 * length bytes.now < LINE_LIMIT }
     ensures text { out.new ≡ out.old ++ spaced (hex_text bytes.now) }
@@ -220,7 +277,6 @@ fn put_hex_word(out: &mut LineBuf, bytes: &[u8])
     put_hex(out, bytes);
 }
 
-// Appends a number after a space.
 fn put_spaced(out: &mut LineBuf, n: u64)
     requires { length out.old ≤ 200 }
     ensures text { out.new ≡ out.old ++ spaced (number_text n) }
@@ -230,7 +286,6 @@ fn put_spaced(out: &mut LineBuf, n: u64)
     put_number(out, n);
 }
 
-// Appends a word after a space.
 fn put_word(out: &mut LineBuf, word: &[u8])
     requires { length out.old + length word.now < LINE_LIMIT }
     ensures text { out.new ≡ out.old ++ spaced word.now }

@@ -4,14 +4,15 @@ use Rattle.cove_base.specs.declared.scripts.Line.{Line}
 use Rattle.cove_base.specs.declared.scripts.Line.TheVariants.{Call, Load, Store}
 use Rattle.cove_base.specs.declared.scripts.ScriptLine.{ScriptLine}
 use Rattle.cove_base.specs.declared.scripts.Fill.{Fill}
-use Rattle.cove_base.specs.CallWords.{word_of, arguments}
+use Rattle.cove_base.specs.CallWords.{call_words}
 use Rattle.cove_base.specs.Numbers.{number_text, natural_text, hex_text}
 use Rattle.cove_base.specs.Scripts.{ScriptValue}
+use Rattle.cove_base.specs.Text.{joined}
 use Rattle.cove_model.specs.Grammar.{Word}
 
 -- words with one space between them
 abbrev pub words_text : Word → List Word → List ℕ
-words_text first words = first ++ flat_map (λ word. 32 ∷ word) words
+words_text first words = joined (first ∷ words)
 
 -- a line of words, with its line feed
 abbrev pub line_text : List Word → List ℕ
@@ -32,7 +33,7 @@ phase_words = codes "phase" ∷ []
 
 -- what a hart does
 abbrev pub action_words : Line → List Word
-action_words (Call call) = word_of call ∷ map number_text (arguments call)
+action_words (Call call) = call_words call
 action_words (Load addr) = codes "ld" ∷ number_text addr ∷ []
 action_words (Store addr value) = codes "sd" ∷ number_text addr ∷ number_text value ∷ []
 

@@ -6,7 +6,7 @@ use Rattle.cove_base.specs.declared.faults.Kind.{Kind}
 use Rattle.cove_base.specs.declared.faults.Kind.TheVariants.{TooLong, NotAscii, BadHeader, UnknownWord, BadNumber, WrongCount, OutOfBoard, NoEnd}
 use Rattle.cove_base.specs.declared.faults.ScriptFault.{ScriptFault}
 use Rattle.cove_journal.specs.Lines.{is_writable}
-use Rattle.cove_base.specs.EventWords.{spaced}
+use Rattle.cove_base.specs.Text.{spaced}
 
 -- the word of a kind of fault
 abbrev pub kind_text : Kind → List ℕ

@@ -1,5 +1,5 @@
 -- What the top call reads and prints.
-use Rattle.std.specs.Prelude.{◌≡◌, ℕ, ◌+◌, ◌≤◌, ◌⊎◌, List, length, Option, Result, Ok, Err}
+use Rattle.std.specs.Prelude.{◌≡◌, ℕ, ◌+◌, ◌≤◌, ◌⊎◌, true, false, List, length, Option, Some, Result, Ok, Err}
 use Rattle.std.specs.Io.KnownBytes.{Consumes, IsAtEnd}
 use Rattle.cove_base.specs.Scripts.{ScriptValue}
 use Rattle.cove_base.specs.declared.events.Entry.{Entry}
@@ -7,6 +7,7 @@ use Rattle.cove_base.specs.declared.faults.Kind.TheVariants.{TooLong}
 use Rattle.cove_base.specs.declared.faults.ScriptFault.{ScriptFault}
 use Rattle.cove_base.specs.declared.limits.TheConstants.{ENTRY_LIMIT, SCRIPT_LIMIT}
 use Rattle.cove_io.specs.Ends.{TakesExactly}
+use Rattle.cove_journal.specs.Journals.{journal_history}
 use Rattle.cove_model.specs.Cached.{IsCached, IsQuiet}
 use Rattle.cove_model.specs.Follows.{Begins}
 use Rattle.cove_model.specs.Grammar.{script_of, fault_at}
@@ -38,6 +39,12 @@ pub record IsHistoryOf (script : ScriptValue) (history : List Entry) : Type 0 wh
   pub begins : Begins script history
   pub cached : IsCached script history
   pub quiet : IsQuiet script history
+
+-- the journal of a history reads as that history, and tells whether every line is ended or the limit came first
+abbrev pub IsReadBack : List Entry → Type 0
+IsReadBack history =
+    (journal_history (report history) ≡ Some (history, true))
+    × (journal_history (report_limit history) ≡ Some (history, false))
 
 -- the text that is printed where this script was read, or its fault
 abbrev pub Prints : Result ScriptValue ScriptFault → (text : List ℕ) → Type 0

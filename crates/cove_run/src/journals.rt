@@ -1,24 +1,49 @@
 //! The printed journal, read again.
 
-ghost use Rattle.std.specs.Prelude.{◌≡◌, ℕ, true, false, List, Some, Ok, IsTrue};
+ghost use Rattle.std.specs.Prelude.{◌≡◌, ◌<◌, ℕ, true, false, length, slice_index_or, Some, IsTrue};
 ghost use Rattle.std.specs.List.{list_all};
-ghost use Rattle.cove_base.specs.Scripts.{ScriptValue};
+ghost use Rattle.cove_base.specs.Scripts.{ScriptValue, is_within_limits};
 ghost use Rattle.cove_base.specs.declared.events.Entry.{Entry};
-ghost use Rattle.cove_base.specs.declared.limits.TheConstants.{SCRIPT_LIMIT};
+ghost use Rattle.cove_journal.specs.Forms.{is_sized};
 ghost use Rattle.cove_journal.specs.Journals.{is_readable, journal_history};
-ghost use Rattle.cove_model.specs.Grammar.{script_of};
 ghost use Rattle.cove_model.specs.Histories.{Legal};
 ghost use Rattle.cove_model.specs.Reports.{report, report_limit};
-ghost use Rattle.cove_run.specs.TopCall.{history_of};
+ghost use Rattle.cove_run.specs.TopCall.{IsReadBack, history_of};
 
-/// What `tsm_alone` prints at its statuses 0 and 4 is read back, for every script that a text spells: it reads as
-/// the history that the script plays, and tells whether every line is ended.
-pub fn printed_journals_are_read_back()
-    // Each entry of a legal history has a line, and the line names it.
-    ensures readable { (bytes : List ℕ) (script : ScriptValue) (history : List Entry)
-        → script_of SCRIPT_LIMIT bytes ≡ Ok script → Legal script history → IsTrue (list_all is_readable history) }
-    ensures done { (bytes : List ℕ) (script : ScriptValue) → script_of SCRIPT_LIMIT bytes ≡ Ok script
-        → journal_history (report (history_of script)) ≡ Some (history_of script, true) }
-    ensures limit { (bytes : List ℕ) (script : ScriptValue) → script_of SCRIPT_LIMIT bytes ≡ Ok script
-        → journal_history (report_limit (history_of script)) ≡ Some (history_of script, false) }
-{}
+use cove_base::{History, Script};
+use cove_journal::event_fits;
+
+/// What `tsm_alone` prints at its statuses 0 and 4 is read back: the journal of every history that the program holds
+/// and that is legal for a script within the limits reads as that history, and tells whether every line is ended.
+pub fn printed_journals_are_read_back(history: &History)
+    // Each entry has a line, and the line names it.
+    ensures readable { (script : ScriptValue) → IsTrue (is_within_limits script) → Legal script history.now
+        → IsTrue (list_all is_readable history.now) }
+    ensures done { (script : ScriptValue) → IsTrue (is_within_limits script) → Legal script history.now
+        → journal_history (report history.now) ≡ Some (history.now, true) }
+    ensures limit { (script : ScriptValue) → IsTrue (is_within_limits script) → Legal script history.now
+        → journal_history (report_limit history.now) ≡ Some (history.now, false) }
+{
+    entries_fit(history);
+}
+
+// The journal of the history that a script plays is read back.
+pub(crate) fn played_journal_is_read_back(history: &History, script: &Script)
+    requires { history.now ≡ history_of script.now }
+    ensures { IsReadBack (history_of script.now) }
+{
+    printed_journals_are_read_back(history);
+    let _pages = script.pages;
+}
+
+// The numbers of the entries of a history have 64 bits.
+fn entries_fit(history: &History)
+    ensures { (i : ℕ) (d : Entry) → i < length history.now → IsTrue (is_sized (slice_index_or history.now i d).event) }
+{
+    for i in 0..history.len() {
+        let Some(entry) = history.get(i) else {
+            unreachable!()
+        };
+        event_fits(&entry.event);
+    }
+}

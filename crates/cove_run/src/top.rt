@@ -10,8 +10,9 @@ ghost use Rattle.cove_model.specs.Grammar.{script_of};
 ghost use Rattle.cove_model.specs.Played.{IsOver};
 ghost use Rattle.cove_model.specs.Reports.{report, report_limit};
 ghost use Rattle.cove_run.specs.Printing.{AreWritable, refusal_line};
-ghost use Rattle.cove_run.specs.TopCall.{IsHistoryOf, Prints, Reads, history_of};
+ghost use Rattle.cove_run.specs.TopCall.{IsHistoryOf, IsReadBack, Prints, Reads, history_of};
 
+use crate::journals::played_journal_is_read_back;
 use crate::printing::{print_journal, print_refusal};
 use cove_base::{ENTRY_LIMIT, History, Kind, NoMemory, SCRIPT_LIMIT, Script, ScriptFault};
 use cove_core::{build, play};
@@ -70,19 +71,21 @@ pub fn tsm_alone<S: Source, K: Sink>(
     ensures bad_words { (result ≡ 2) ↔ (accepts words.now ≡ false) }
     ensures untouched { result ≡ 2 → (source.new ≡ source.old) × (sink.new ≡ sink.old) }
 
-    // The printed journal is that of the one history that the script plays. It is legal, makes each hart's lines
-    // once and in order, and no page changes hands in it while a translation of a hart names it.
+    // The printed journal is that of the one history that the script plays, and reads as it. It is legal, makes each
+    // hart's lines once and in order, and no page changes hands in it while a translation of a hart names it.
     ensures done { result ≡ 0 → (script : ScriptValue)
         × Reads (S.left source.old) (S.left source.new) (Ok script)
         × Appends (K.taken sink.old) (K.taken sink.new) (report (history_of script))
-        × IsHistoryOf script (history_of script) × Follows script (history_of script) }
+        × IsHistoryOf script (history_of script) × Follows script (history_of script)
+        × IsReadBack (history_of script) }
 
     // The same where the history came to its limit before a line was made.
     ensures limit { result ≡ 4 → (script : ScriptValue)
         × Reads (S.left source.old) (S.left source.new) (Ok script)
         × Appends (K.taken sink.old) (K.taken sink.new) (report_limit (history_of script))
         × IsHistoryOf script (history_of script)
-        × (length (history_of script) ≡ ENTRY_LIMIT) × (IsOver script (history_of script) → ⊥) }
+        × (length (history_of script) ≡ ENTRY_LIMIT) × (IsOver script (history_of script) → ⊥)
+        × IsReadBack (history_of script) }
 
     // What is no script is refused by one line, which names its first fault.
     ensures refused { result ≡ 3 → (fault : _) × Reads (S.left source.old) (S.left source.new) (Err fault)
@@ -185,10 +188,12 @@ fn refuse<K: Sink>(fault: ScriptFault, sink: &mut K) -> u8
 fn run<K: Sink>(alloc: Global, script: &Script, sink: &mut K) -> u8
     ensures done { result ≡ 0 → IsOver script.now (history_of script.now)
         × Appends (K.taken sink.old) (K.taken sink.new) (report (history_of script.now))
-        × IsHistoryOf script.now (history_of script.now) × Follows script.now (history_of script.now) }
+        × IsHistoryOf script.now (history_of script.now) × Follows script.now (history_of script.now)
+        × IsReadBack (history_of script.now) }
     ensures limit { result ≡ 4 → (IsOver script.now (history_of script.now) → ⊥)
         × Appends (K.taken sink.old) (K.taken sink.new) (report_limit (history_of script.now))
-        × IsHistoryOf script.now (history_of script.now) × (length (history_of script.now) ≡ ENTRY_LIMIT) }
+        × IsHistoryOf script.now (history_of script.now) × (length (history_of script.now) ≡ ENTRY_LIMIT)
+        × IsReadBack (history_of script.now) }
     ensures memory { result ≡ 1 → sink.new ≡ sink.old }
     ensures sink_fault { result ≡ 6 → Rose (K.count sink.old) (K.count sink.new)
         × ((text : List ℕ) × Prints (Ok script.now) text × AppendsFront (K.taken sink.old) (K.taken sink.new) text) }
@@ -207,16 +212,19 @@ fn print_whole<K: Sink>(history: &History, is_whole: bool, script: &Script, sink
     requires whole { IsTrue is_whole ↔ IsOver script.now (history_of script.now) }
     ensures done { result ≡ 0 → IsOver script.now (history_of script.now)
         × Appends (K.taken sink.old) (K.taken sink.new) (report (history_of script.now))
-        × IsHistoryOf script.now (history_of script.now) × Follows script.now (history_of script.now) }
+        × IsHistoryOf script.now (history_of script.now) × Follows script.now (history_of script.now)
+        × IsReadBack (history_of script.now) }
     ensures limit { result ≡ 4 → (IsOver script.now (history_of script.now) → ⊥)
         × Appends (K.taken sink.old) (K.taken sink.new) (report_limit (history_of script.now))
-        × IsHistoryOf script.now (history_of script.now) × (length (history_of script.now) ≡ ENTRY_LIMIT) }
+        × IsHistoryOf script.now (history_of script.now) × (length (history_of script.now) ≡ ENTRY_LIMIT)
+        × IsReadBack (history_of script.now) }
     ensures sink_fault { result ≡ 6 → Rose (K.count sink.old) (K.count sink.new)
         × ((text : List ℕ) × Prints (Ok script.now) text × AppendsFront (K.taken sink.old) (K.taken sink.new) text) }
     ensures clean { result ≢ 6 → K.count sink.new ≡ K.count sink.old }
     ensures statuses { (result ≡ 0) ⊎ ((result ≡ 4) ⊎ (result ≡ 6)) }
 {
     played_facts(script);
+    played_journal_is_read_back(history, script);
     match print_journal(history, is_whole, sink) {
         Ok(()) if is_whole => DONE,
         Ok(()) => AT_LIMIT,

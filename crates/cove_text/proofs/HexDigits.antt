@@ -33,7 +33,7 @@ hex_text-more bytes i before within =
 -- ---- one byte
 
 -- the two readers of a digit agree
-hex_digit_value-is : (c : ℕ) → hex_digit_value c ≡ cond (is_hex_digit c) (Some (digit_value c)) None
+pub hex_digit_value-is : (c : ℕ) → hex_digit_value c ≡ cond (is_hex_digit c) (Some (digit_value c)) None
 hex_digit_value-is c = grind (arith, nat_tests)
 
 -- a pair of digits is its byte, and another pair none

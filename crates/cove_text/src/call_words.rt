@@ -1,10 +1,12 @@
-ghost use Rattle.std.specs.Prelude.{◌≡◌, ◌+◌, ◌*◌, ◌≤◌, [], ◌∷◌, ◌++◌, length, flat_map, codes, bytes_eq, Some};
-ghost use Rattle.std.specs.List.{list_any};
-ghost use Rattle.cove_base.specs.Numbers.{number_text};
+ghost use Rattle.std.specs.Prelude.{◌≡◌, ◌+◌, ◌*◌, ◌≤◌, [], ◌∷◌, ◌++◌, length, flat_map, bytes_eq, IsTrue, Some};
+ghost use Rattle.std.specs.List.{list_all, list_any};
+ghost use Rattle.cove_base.specs.Numbers.{is_u64, number_text};
+ghost use Rattle.cove_base.specs.Text.{spaced};
 ghost use Rattle.cove_base.specs.CallWords.{arguments, call_of, call_text, is_call_word, word_of};
 
 use crate::line_buf::{LINE_LIMIT, LineBuf};
-use crate::numbers::put_number;
+use crate::numbers::{numbers_fit, put_number};
+use arrayvec::ArrayVec;
 use cove_base::HostCall;
 
 /// Room in a line for every call that `put_call` writes.
@@ -228,47 +230,65 @@ pub fn put_call(out: &mut LineBuf, call: &HostCall)
     ensures room { length out.new ≤ length out.old + CALL_ROOM }
 {
     out.put_bytes(word_of(call));
+    put_numbers(out, arguments_of(call).as_slice());
+}
+
+// Appends numbers, each after one space.
+fn put_numbers(out: &mut LineBuf, numbers: &[u64])
+    requires { length out.old + 19 * length numbers.now ≤ LINE_LIMIT }
+    ensures text { out.new ≡ out.old ++ flat_map (λ n. spaced (number_text n)) numbers.now }
+    ensures room { length out.new ≤ length out.old + 19 * length numbers.now }
+{
+    for number in numbers {
+        out.push(b' ');
+        put_number(out, *number);
+    }
+}
+
+// The arguments of a call, in order.
+fn arguments_of(call: &HostCall) -> ArrayVec<u64, 5>
+    ensures arguments { result.items ≡ arguments call.now }
+    ensures few { length result.items ≤ 5 }
+{
     match *call {
-        HostCall::Convert { base, n } | HostCall::Reclaim { base, n } => {
-            put_arguments(out, &[base, n])
-        }
-        HostCall::Create { root, state } => { put_arguments(out, &[root, state]) }
-        HostCall::Region { t, gpa, len } => { put_arguments(out, &[t, gpa, len]) }
-        HostCall::Tables { t, base, n } => { put_arguments(out, &[t, base, n]) }
+        HostCall::Convert { base, n } | HostCall::Reclaim { base, n } => list(&[base, n]),
+        HostCall::Create { root, state } => list(&[root, state]),
+        HostCall::Region { t, gpa, len } => list(&[t, gpa, len]),
+        HostCall::Tables { t, base, n } => list(&[t, base, n]),
         HostCall::Measured {
             t,
             src,
             dst,
             n,
             gpa,
-        } => { put_arguments(out, &[t, src, dst, n, gpa]) }
-        HostCall::Vcpu { t, v, state } => { put_arguments(out, &[t, v, state]) }
-        HostCall::Finalize { t, pc, arg } => { put_arguments(out, &[t, pc, arg]) }
+        } => list(&[t, src, dst, n, gpa]),
+        HostCall::Vcpu { t, v, state } => list(&[t, v, state]),
+        HostCall::Finalize { t, pc, arg } => list(&[t, pc, arg]),
         HostCall::Zero { t, base, n, gpa } | HostCall::Shared { t, base, n, gpa } => {
-            put_arguments(out, &[t, base, n, gpa])
+            list(&[t, base, n, gpa])
         }
-        HostCall::Run { t, v, fuel } => { put_arguments(out, &[t, v, fuel]) }
+        HostCall::Run { t, v, fuel } => list(&[t, v, fuel]),
         HostCall::Invalidate { t, gpa, n }
         | HostCall::Validate { t, gpa, n }
-        | HostCall::Remove { t, gpa, n } => { put_arguments(out, &[t, gpa, n]) }
-        HostCall::TvmFence { t } | HostCall::Destroy { t } => { put_arguments(out, &[t]) }
-        HostCall::Kick { hart } => { put_arguments(out, &[hart]) }
-        HostCall::Bind { t, v, hart, file } => { put_arguments(out, &[t, v, hart, file]) }
-        HostCall::Unbind { t, v } | HostCall::Unbound { t, v } => { put_arguments(out, &[t, v]) }
-        HostCall::Inject { t, v, id } => { put_arguments(out, &[t, v, id]) }
-        HostCall::GlobalFence | HostCall::LocalFence | HostCall::Info => {}
+        | HostCall::Remove { t, gpa, n } => list(&[t, gpa, n]),
+        HostCall::TvmFence { t } | HostCall::Destroy { t } => list(&[t]),
+        HostCall::Kick { hart } => list(&[hart]),
+        HostCall::Bind { t, v, hart, file } => list(&[t, v, hart, file]),
+        HostCall::Unbind { t, v } | HostCall::Unbound { t, v } => list(&[t, v]),
+        HostCall::Inject { t, v, id } => list(&[t, v, id]),
+        HostCall::GlobalFence | HostCall::LocalFence | HostCall::Info => list(&[]),
     }
 }
 
-// Appends the arguments of a call, each after one space.
-fn put_arguments(out: &mut LineBuf, args: &[u64])
-    requires { length out.old + 19 * length args.now ≤ LINE_LIMIT }
-    ensures text { out.new ≡ out.old ++ flat_map (λ n. codes " " ++ number_text n) args.now }
-    ensures room { length out.new ≤ length out.old + 19 * length args.now }
+// A list of five numbers at most.
+fn list(numbers: &[u64]) -> ArrayVec<u64, 5>
+    requires { length numbers.now ≤ 5 }
+    ensures { result.items ≡ numbers.now }
 {
-    for argument in args {
-        out.push(b' ');
-        put_number(out, *argument);
+    let mut items = ArrayVec::new();
+    match items.try_extend_from_slice(numbers) {
+        Ok(()) => items,
+        Err(_) => unreachable!(),
     }
 }
 
@@ -302,6 +322,13 @@ fn word_of(call: &HostCall) -> &'static [u8]
         HostCall::Unbound { .. } => b"unbound",
         HostCall::Inject { .. } => b"inject",
     }
+}
+
+/// The arguments of a call have 64 bits.
+pub fn call_fits(call: &HostCall)
+    ensures { IsTrue (list_all is_u64 (arguments call.now)) }
+{
+    numbers_fit(arguments_of(call).as_slice());
 }
 
 /// What `put_call` writes is read back: the call of a call's word and arguments is that call.

@@ -1,6 +1,7 @@
-ghost use Rattle.std.specs.Prelude.{◌≡◌, ◌+◌, ◌*◌, ◌^◌, ◌<◌, ◌≤◌, ◌++◌, length, map, codes, Some, SomeIff};
+ghost use Rattle.std.specs.Prelude.{◌≡◌, ◌+◌, ◌*◌, ◌^◌, ◌<◌, ◌≤◌, ◌++◌, length, map, codes, IsTrue, Some, SomeIff};
+ghost use Rattle.std.specs.List.{list_all};
 ghost use Rattle.std.specs.Char.{digit_char, digit_value};
-ghost use Rattle.cove_base.specs.Numbers.{decimal_text, natural_text, number_of, number_text, shortest_digits, value_of_numeral};
+ghost use Rattle.cove_base.specs.Numbers.{decimal_text, is_u64, natural_text, number_of, number_text, shortest_digits, value_of_numeral};
 
 use crate::line_buf::{LINE_LIMIT, LineBuf};
 
@@ -107,4 +108,9 @@ pub fn number_is_read_back(v: u64)
 /// What `put_decimal` writes of a natural number is read back.
 pub fn natural_is_read_back(v: u64)
     ensures { number_of (natural_text v) ≡ Some v }
+{}
+
+/// Numbers of 64 bits are below 2^64.
+pub fn numbers_fit(numbers: &[u64])
+    ensures { IsTrue (list_all is_u64 numbers.now) }
 {}
