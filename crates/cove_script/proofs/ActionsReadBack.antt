@@ -11,7 +11,7 @@ use Rattle.cove_base.specs.Numbers.{number_text, natural_text}
 use Rattle.cove_model.specs.Grammar.{Word, value, is_line_word, line_of, are_numbers, HartLine, is_remark, content_of}
 use Rattle.cove_model.specs.ScriptText.{action_words}
 use Rattle.cove_script.specs.MachineNumbers.{fits, line_numbers}
-use Rattle.cove_script.proofs.JoinedText.{is_word}
+use Rattle.cove_base.proofs.JoinedWords.{is_word}
 use Rattle.cove_script.proofs.NumberWords.{WriteAll, write_all, number_text_writes}
 
 -- the word of a call, among the words of a hart's line

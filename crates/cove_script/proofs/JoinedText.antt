@@ -1,30 +1,17 @@
 -- The text of lines of words is split into the same lines and words.
-use Rattle.std.proofs.Common.{◌≡◌, ℕ, ◌+◌, ◌<◌, ◌≤◌, Bool, true, false, ◌&&◌, nat_le, nat_lt, List, [], ◌∷◌, ◌++◌, length, Ok, refl, ap, ◌∙◌, append_assoc, arith}
+use Rattle.std.proofs.Common.{◌≡◌, ℕ, ◌+◌, ◌<◌, ◌≤◌, true, false, nat_le, nat_lt, List, [], ◌∷◌, ◌++◌, length, Ok, refl, ap, ◌∙◌, append_assoc, arith}
 use Rattle.std.specs.Prelude.{flat_map}
 use Rattle.std.specs.List.{list_all}
 use Rattle.std.proofs.lemmas.Bool.{and_parts, and_from, leb-true, ltb-true}
 use Rattle.std.proofs.lemmas.Bool.Decides.{nat_tests}
 use Rattle.std.proofs.lemmas.List.{append-nil}
 use Rattle.std.proofs.lemmas.List.Folds.{list_all-append}
+use Rattle.cove_base.proofs.JoinedWords.{is_word, is_word_byte, text_words-joined}
 use Rattle.cove_base.proofs.ScriptLimits.{all_weaker}
 use Rattle.cove_base.specs.Scripts.{ScriptValue}
-use Rattle.cove_base.specs.Text.{is_line_end, lines_from, text_lines}
-use Rattle.cove_text.proofs.JoinedWords as joined
+use Rattle.cove_base.specs.Text.{is_line_end, lines_from, spaced, text_lines}
 use Rattle.cove_model.specs.Grammar.{Reading, Word, is_text_byte, is_ascii, words_read, line_read, lines_read}
 use Rattle.cove_model.specs.ScriptText.{words_text, lines_text}
-
--- a printing character that is no blank
-abbrev pub is_word_byte : ℕ → Bool
-is_word_byte b = nat_le 33 b && nat_lt b 127
-
--- at least one such byte
-abbrev pub is_word : Word → Bool
-is_word word = nat_le 1 (length word) && list_all is_word_byte word
-
-parts_no_words : (b : ℕ) → is_word_byte b ≡ true → joined.is_word_byte b ≡ true
-parts_no_words b e =
-    let low : 33 ≤ b = leb-true 33 b (and_parts (nat_le 33 b) (nat_lt b 127) e).0 in
-    grind (arith, nat_tests)
 
 is_text : (b : ℕ) → is_word_byte b ≡ true → is_text_byte b ≡ true
 is_text b e =
@@ -36,24 +23,19 @@ is_text b e =
 ends_no_line : (b : ℕ) → is_text_byte b ≡ true → is_line_end b ≡ false
 ends_no_line b e = grind (arith, nat_tests)
 
-stays_one : (word : Word) → is_word word ≡ true → joined.is_word word ≡ true
-stays_one word e =
-    let p = and_parts (nat_le 1 (length word)) (list_all is_word_byte word) e in
-    and_from _ _ p.0 (all_weaker is_word_byte joined.is_word_byte parts_no_words word p.1)
-
 word_is_ascii : (word : Word) → is_word word ≡ true → is_ascii word ≡ true
 word_is_ascii word e = all_weaker is_word_byte is_text_byte is_text word (and_parts (nat_le 1 (length word)) (list_all is_word_byte word) e).1
 
-spaced_is_ascii : (words : List Word) → list_all is_word words ≡ true → is_ascii (flat_map (λ word. 32 ∷ word) words) ≡ true
+spaced_is_ascii : (words : List Word) → list_all is_word words ≡ true → is_ascii (flat_map spaced words) ≡ true
 spaced_is_ascii [] all = refl
 spaced_is_ascii (word ∷ words) all =
     let p = and_parts (is_word word) (list_all is_word words) all in
-    list_all-append is_text_byte word (flat_map (λ w. 32 ∷ w) words) ∙ and_from _ _ (word_is_ascii word p.0) (spaced_is_ascii words p.1)
+    list_all-append is_text_byte word (flat_map spaced words) ∙ and_from _ _ (word_is_ascii word p.0) (spaced_is_ascii words p.1)
 
 words_text_is_ascii : (first : Word) (words : List Word) → list_all is_word (first ∷ words) ≡ true → is_ascii (words_text first words) ≡ true
 words_text_is_ascii first words all =
     let p = and_parts (is_word first) (list_all is_word words) all in
-    list_all-append is_text_byte first (flat_map (λ w. 32 ∷ w) words) ∙ and_from _ _ (word_is_ascii first p.0) (spaced_is_ascii words p.1)
+    list_all-append is_text_byte first (flat_map spaced words) ∙ and_from _ _ (word_is_ascii first p.0) (spaced_is_ascii words p.1)
 
 line_ends : (piece line rest : List ℕ) → is_ascii line ≡ true → lines_from piece (line ++ 10 ∷ rest) ≡ (piece ++ line) ∷ lines_from [] rest
 line_ends piece [] rest e = rw append-nil refl
@@ -65,7 +47,7 @@ line_ends piece (b ∷ line) rest e =
 line_read-words_text : (R : Reading) (first : Word) (words : List Word) → list_all is_word (first ∷ words) ≡ true → line_read R (words_text first words) ≡ words_read R (first ∷ words)
 unfolding line_read
 line_read-words_text R first words all =
-    let split = joined.text_words-joined first words (all_weaker is_word joined.is_word stays_one (first ∷ words) all) in
+    let split = text_words-joined (first ∷ words) all in
     rw (words_text_is_ascii first words all) (ap (λ (ws : List Word). words_read R ws) split)
 
 -- ---- lines of words

@@ -10,7 +10,7 @@ use Rattle.cove_base.specs.Numbers.{number_of, number_text, natural_text, hex_te
 use Rattle.cove_text.proofs.Numerals.{length-shortest_digits, list_all-shortest_digits, number_of-number_text, number_of-natural_text}
 use Rattle.cove_text.proofs.HexDigits.{hex_of-hex_text, length-hex_text, list_all-hex_text}
 use Rattle.cove_model.specs.Grammar.{Word, is_number, value, bytes_of, is_hex, are_numbers}
-use Rattle.cove_script.proofs.JoinedText.{is_word, is_word_byte}
+use Rattle.cove_base.proofs.JoinedWords.{is_word, is_word_byte}
 
 digit_is_word_byte : (base d : ℕ) → base ≤ 16 → is_digit d base ≡ true → is_word_byte d ≡ true
 digit_is_word_byte base d small e = grind (arith, nat_tests)
