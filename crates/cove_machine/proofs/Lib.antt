@@ -1,3 +1,4 @@
+pub mod Measuring
 pub mod Determined
 pub mod PrivatePages
 pub mod Progress

@@ -8,6 +8,7 @@ pub mod Histories
 pub mod HostCalls
 pub mod Keyed
 pub mod Mappings
+pub mod Measured
 pub mod Offers
 pub mod Pages
 pub mod Played

@@ -1,6 +1,8 @@
 //! The laws of the definitions: their clauses say what holds of every script, state and history.
 
-ghost use Rattle.std.specs.Prelude.{◌≡◌, ◌<◌, ◌≤◌, ◌↔◌, ℕ, List, [], ◌∷◌, ◌++◌, length, Some, None, true, IsTrue};
+ghost use Rattle.std.specs.Prelude.{◌≡◌, ◌<◌, ◌≤◌, ◌↔◌, ℕ, List, [], ◌∷◌, ◌++◌, length, map, slice_index_or, Some, None, true, IsTrue};
+ghost use Rattle.cove_base.specs.Evidence.{evidence};
+ghost use Rattle.cove_base.specs.Measurement.{Extension, Record, record_bytes, register_of, registers_of};
 ghost use Rattle.cove_base.specs.Registers.{register};
 ghost use Rattle.cove_base.specs.Scripts.{ScriptValue, is_within_limits};
 ghost use Rattle.cove_base.specs.declared.calls.GuestAct.{GuestAct};
@@ -15,14 +17,15 @@ ghost use Rattle.cove_model.specs.HostMemory.{seen_words};
 ghost use Rattle.cove_model.specs.Owners.{page_at};
 ghost use Rattle.cove_machine.specs.Answers.{reply_by, reply_to};
 ghost use Rattle.cove_machine.specs.Cached.{IsCached, IsQuiet, IsQuietAt, IsReached, WasFound};
-ghost use Rattle.cove_machine.specs.GuestCalls.{guest_rule};
+ghost use Rattle.cove_machine.specs.GuestCalls.{evidence_at, guest_bytes, guest_rule};
 ghost use Rattle.cove_machine.specs.Histories.{Begins, Follows, Legal, after, after_entry, own, told};
 ghost use Rattle.cove_machine.specs.Mappings.{mapping_of};
+ghost use Rattle.cove_machine.specs.Measured.{IsMeasured};
 ghost use Rattle.cove_machine.specs.Offers.{cpu_of, may_succeed};
 ghost use Rattle.cove_machine.specs.Played.{IsEnded, IsOver, Play, played, round};
 ghost use Rattle.cove_machine.specs.Seated.{IsSeated, IsStill};
 ghost use Rattle.cove_machine.specs.Sound.{IsSound, IsUsable};
-ghost use Rattle.cove_machine.specs.States.{Seat, State, ended_by, find_tvm};
+ghost use Rattle.cove_machine.specs.States.{Seat, State, ended_by, find_tvm, tvm_at};
 ghost use Rattle.cove_machine.specs.Steps.{Allows, IsStep, asked};
 ghost use Rattle.cove_machine.specs.Translations.{held_after, holds_target, tlb, touched};
 ghost use Rattle.cove_machine.specs.Tvms.{Mapping, OwnPage, Tvm};
@@ -154,4 +157,19 @@ pub fn played_histories_are_legal()
 pub fn still_rounds_are_last()
     ensures { (limit : ℕ) (script : ScriptValue) (play : Play)
         → round limit script play ≡ play → IsEnded limit script play.history }
+{}
+
+/// What is measured of a TVM is its pages while it is built and its finalize record last; so register 0 of its evidence
+/// is the fold of these, whatever came since.
+pub fn records_are_sealed()
+    ensures measured { (script : ScriptValue) (history : List Entry) (t : ℕ) (tvm : Tvm)
+        → find_tvm (after script history) t ≡ Some tvm → IsMeasured tvm }
+    ensures sealed { (script : ScriptValue) (history : List Entry) (entry : Entry) (t : ℕ) (tvm now : Tvm)
+        → find_tvm (after script history) t ≡ Some tvm → tvm.runnable ≡ true
+        → find_tvm (after script (history ++ entry ∷ [])) t ≡ Some now
+        → (now.runnable ≡ true) × (now.records ≡ tvm.records) }
+    ensures registers { (S : State) (t nonce : ℕ) → evidence_at S t nonce
+        ≡ evidence (registers_of (tvm_at S t).records (tvm_at S t).extensions) (guest_bytes S t nonce 64) S.key }
+    ensures first { (records : List Record) (extensions : List Extension)
+        → slice_index_or (registers_of records extensions) 0 [] ≡ register_of (map record_bytes records) }
 {}
