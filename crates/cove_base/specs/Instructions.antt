@@ -174,7 +174,7 @@ decoded word =
     else if opcode word == 0x03 then load_of (funct3 word) (rd word) (rs1 word) (imm_i word)
     else if opcode word == 0x23 then store_of (funct3 word) (rs1 word) (rs2 word) (imm_s word)
     else if opcode word == 0x13 && is_shift (funct3 word) then
-        shift_of (funct6 word) (funct3 word) (rd word) (rs1 word) (pos (shamt word))
+    shift_of (funct6 word) (funct3 word) (rd word) (rs1 word) (pos (shamt word))
     else if opcode word == 0x13 then immediate_of (funct3 word) (rd word) (rs1 word) (imm_i word)
     else if opcode word == 0x1b && funct3 word == 0 then Some (Addiw (rd word) (rs1 word) (imm_i word))
     else if opcode word == 0x1b then shift_of_32 (funct7 word) (funct3 word) (rd word) (rs1 word) (pos (rs2 word))
