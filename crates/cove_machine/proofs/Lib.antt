@@ -1,3 +1,5 @@
+pub mod Ordering
+pub mod Distinct
 pub mod Measuring
 pub mod Determined
 pub mod PrivatePages

@@ -10,6 +10,7 @@ pub mod Keyed
 pub mod Mappings
 pub mod Measured
 pub mod Offers
+pub mod Orderly
 pub mod Pages
 pub mod Played
 pub mod Seated

@@ -22,6 +22,7 @@ ghost use Rattle.cove_machine.specs.Histories.{Begins, Follows, Legal, after, af
 ghost use Rattle.cove_machine.specs.Mappings.{mapping_of};
 ghost use Rattle.cove_machine.specs.Measured.{IsMeasured};
 ghost use Rattle.cove_machine.specs.Offers.{cpu_of, may_succeed};
+ghost use Rattle.cove_machine.specs.Orderly.{IsOrderly};
 ghost use Rattle.cove_machine.specs.Played.{IsEnded, IsOver, Play, played, round};
 ghost use Rattle.cove_machine.specs.Seated.{IsSeated, IsStill};
 ghost use Rattle.cove_machine.specs.Sound.{IsSound, IsUsable};
@@ -87,6 +88,12 @@ pub fn rules_answer()
 /// After every history, legal or not, pages, mappings and what they wait for are sound.
 pub fn states_are_sound()
     ensures { (script : ScriptValue) (history : List Entry) → IsSound (after script history) }
+{}
+
+/// After every history the numbers of live TVMs differ, and the guest pages of a TVM's mappings; pages are given to live
+/// TVMs alone.
+pub fn states_are_orderly()
+    ensures { (script : ScriptValue) (history : List Entry) → IsOrderly (after script history) }
 {}
 
 /// The words of a TVM's own page stand under its guest page, and host memory has none of them.
