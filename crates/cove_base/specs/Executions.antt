@@ -24,12 +24,12 @@ abbrev pub right_signed : (a k : ℕ) → ℕ
 right_signed a k = cast_unsigned w64 (int_shr (cast_signed w64 a) k)
 
 -- a signed number as a word
-abbrev pub word_of : ℤ → ℕ
-word_of z = cast_unsigned w64 z
+abbrev pub as_word : ℤ → ℕ
+as_word z = cast_unsigned w64 z
 
 -- the low bits of a word, with their sign copied into the others
-abbrev pub extended : (width a : ℕ) → ℕ
-extended width a = word_of (signed width (a % 2 ^ width))
+abbrev pub sign_extended : (width a : ℕ) → ℕ
+sign_extended width a = as_word (signed width (a % 2 ^ width))
 
 -- comparisons of words as signed numbers
 abbrev pub is_less_signed : (a b : ℕ) → Bool
@@ -51,7 +51,7 @@ jumps pc rd target = if target % 4 == 0 then plans.Done rd (plus pc 4) target el
 abbrev pub branches : (pc : ℕ) (test : Bool) → ℤ → Plan
 branches pc test imm =
     if not test then goes_on pc 0 0
-    else if plus pc (word_of imm) % 4 == 0 then plans.Done 0 0 (plus pc (word_of imm))
+    else if plus pc (as_word imm) % 4 == 0 then plans.Done 0 0 (plus pc (as_word imm))
     else plans.Trap 0
 
 -- a load and a store; they trap where the address is no multiple of the size
@@ -63,40 +63,40 @@ stores addr size value = if addr % size == 0 then plans.Store addr size value el
 
 -- what an instruction does, by the registers from x0 on and its own place
 abbrev pub plan : List ℕ → (pc : ℕ) → Insn → Plan
-plan x pc (Lui rd imm) = goes_on pc rd (word_of imm)
-plan x pc (Auipc rd imm) = goes_on pc rd (plus pc (word_of imm))
-plan x pc (Jal rd imm) = jumps pc rd (plus pc (word_of imm))
-plan x pc (Jalr rd rs1 imm) = jumps pc rd (plus (register x rs1) (word_of imm) / 2 * 2)
+plan x pc (Lui rd imm) = goes_on pc rd (as_word imm)
+plan x pc (Auipc rd imm) = goes_on pc rd (plus pc (as_word imm))
+plan x pc (Jal rd imm) = jumps pc rd (plus pc (as_word imm))
+plan x pc (Jalr rd rs1 imm) = jumps pc rd (plus (register x rs1) (as_word imm) / 2 * 2)
 plan x pc (Beq rs1 rs2 imm) = branches pc (register x rs1 == register x rs2) imm
 plan x pc (Bne rs1 rs2 imm) = branches pc (not (register x rs1 == register x rs2)) imm
 plan x pc (Blt rs1 rs2 imm) = branches pc (is_less_signed (register x rs1) (register x rs2)) imm
 plan x pc (Bge rs1 rs2 imm) = branches pc (not (is_less_signed (register x rs1) (register x rs2))) imm
 plan x pc (Bltu rs1 rs2 imm) = branches pc (nat_lt (register x rs1) (register x rs2)) imm
 plan x pc (Bgeu rs1 rs2 imm) = branches pc (not (nat_lt (register x rs1) (register x rs2))) imm
-plan x pc (Lb rd rs1 imm) = loads (plus (register x rs1) (word_of imm)) 1 true rd
-plan x pc (Lh rd rs1 imm) = loads (plus (register x rs1) (word_of imm)) 2 true rd
-plan x pc (Lw rd rs1 imm) = loads (plus (register x rs1) (word_of imm)) 4 true rd
-plan x pc (Ld rd rs1 imm) = loads (plus (register x rs1) (word_of imm)) 8 false rd
-plan x pc (Lbu rd rs1 imm) = loads (plus (register x rs1) (word_of imm)) 1 false rd
-plan x pc (Lhu rd rs1 imm) = loads (plus (register x rs1) (word_of imm)) 2 false rd
-plan x pc (Lwu rd rs1 imm) = loads (plus (register x rs1) (word_of imm)) 4 false rd
-plan x pc (Sb rs1 rs2 imm) = stores (plus (register x rs1) (word_of imm)) 1 (register x rs2)
-plan x pc (Sh rs1 rs2 imm) = stores (plus (register x rs1) (word_of imm)) 2 (register x rs2)
-plan x pc (Sw rs1 rs2 imm) = stores (plus (register x rs1) (word_of imm)) 4 (register x rs2)
-plan x pc (Sd rs1 rs2 imm) = stores (plus (register x rs1) (word_of imm)) 8 (register x rs2)
-plan x pc (Addi rd rs1 imm) = goes_on pc rd (plus (register x rs1) (word_of imm))
-plan x pc (Slti rd rs1 imm) = goes_on pc rd (flag (is_less_signed (register x rs1) (word_of imm)))
-plan x pc (Sltiu rd rs1 imm) = goes_on pc rd (flag (nat_lt (register x rs1) (word_of imm)))
-plan x pc (Xori rd rs1 imm) = goes_on pc rd (bit_xor (register x rs1) (word_of imm))
-plan x pc (Ori rd rs1 imm) = goes_on pc rd (bit_or (register x rs1) (word_of imm))
-plan x pc (Andi rd rs1 imm) = goes_on pc rd (bit_and (register x rs1) (word_of imm))
-plan x pc (Slli rd rs1 imm) = goes_on pc rd (left (register x rs1) (word_of imm))
-plan x pc (Srli rd rs1 imm) = goes_on pc rd (register x rs1 / 2 ^ word_of imm)
-plan x pc (Srai rd rs1 imm) = goes_on pc rd (right_signed (register x rs1) (word_of imm))
-plan x pc (Addiw rd rs1 imm) = goes_on pc rd (extended 32 (plus (register x rs1) (word_of imm)))
-plan x pc (Slliw rd rs1 imm) = goes_on pc rd (extended 32 (left (register x rs1) (word_of imm)))
-plan x pc (Srliw rd rs1 imm) = goes_on pc rd (extended 32 (register x rs1 % 2 ^ 32 / 2 ^ word_of imm))
-plan x pc (Sraiw rd rs1 imm) = goes_on pc rd (right_signed (extended 32 (register x rs1)) (word_of imm))
+plan x pc (Lb rd rs1 imm) = loads (plus (register x rs1) (as_word imm)) 1 true rd
+plan x pc (Lh rd rs1 imm) = loads (plus (register x rs1) (as_word imm)) 2 true rd
+plan x pc (Lw rd rs1 imm) = loads (plus (register x rs1) (as_word imm)) 4 true rd
+plan x pc (Ld rd rs1 imm) = loads (plus (register x rs1) (as_word imm)) 8 false rd
+plan x pc (Lbu rd rs1 imm) = loads (plus (register x rs1) (as_word imm)) 1 false rd
+plan x pc (Lhu rd rs1 imm) = loads (plus (register x rs1) (as_word imm)) 2 false rd
+plan x pc (Lwu rd rs1 imm) = loads (plus (register x rs1) (as_word imm)) 4 false rd
+plan x pc (Sb rs1 rs2 imm) = stores (plus (register x rs1) (as_word imm)) 1 (register x rs2)
+plan x pc (Sh rs1 rs2 imm) = stores (plus (register x rs1) (as_word imm)) 2 (register x rs2)
+plan x pc (Sw rs1 rs2 imm) = stores (plus (register x rs1) (as_word imm)) 4 (register x rs2)
+plan x pc (Sd rs1 rs2 imm) = stores (plus (register x rs1) (as_word imm)) 8 (register x rs2)
+plan x pc (Addi rd rs1 imm) = goes_on pc rd (plus (register x rs1) (as_word imm))
+plan x pc (Slti rd rs1 imm) = goes_on pc rd (flag (is_less_signed (register x rs1) (as_word imm)))
+plan x pc (Sltiu rd rs1 imm) = goes_on pc rd (flag (nat_lt (register x rs1) (as_word imm)))
+plan x pc (Xori rd rs1 imm) = goes_on pc rd (bit_xor (register x rs1) (as_word imm))
+plan x pc (Ori rd rs1 imm) = goes_on pc rd (bit_or (register x rs1) (as_word imm))
+plan x pc (Andi rd rs1 imm) = goes_on pc rd (bit_and (register x rs1) (as_word imm))
+plan x pc (Slli rd rs1 imm) = goes_on pc rd (left (register x rs1) (as_word imm))
+plan x pc (Srli rd rs1 imm) = goes_on pc rd (register x rs1 / 2 ^ as_word imm)
+plan x pc (Srai rd rs1 imm) = goes_on pc rd (right_signed (register x rs1) (as_word imm))
+plan x pc (Addiw rd rs1 imm) = goes_on pc rd (sign_extended 32 (plus (register x rs1) (as_word imm)))
+plan x pc (Slliw rd rs1 imm) = goes_on pc rd (sign_extended 32 (left (register x rs1) (as_word imm)))
+plan x pc (Srliw rd rs1 imm) = goes_on pc rd (sign_extended 32 (register x rs1 % 2 ^ 32 / 2 ^ as_word imm))
+plan x pc (Sraiw rd rs1 imm) = goes_on pc rd (right_signed (sign_extended 32 (register x rs1)) (as_word imm))
 plan x pc (Add rd rs1 rs2) = goes_on pc rd (plus (register x rs1) (register x rs2))
 plan x pc (Sub rd rs1 rs2) = goes_on pc rd (minus (register x rs1) (register x rs2))
 plan x pc (Sll rd rs1 rs2) = goes_on pc rd (left (register x rs1) (register x rs2 % 2 ^ 6))
@@ -107,11 +107,11 @@ plan x pc (Srl rd rs1 rs2) = goes_on pc rd (register x rs1 / 2 ^ (register x rs2
 plan x pc (Sra rd rs1 rs2) = goes_on pc rd (right_signed (register x rs1) (register x rs2 % 2 ^ 6))
 plan x pc (Or rd rs1 rs2) = goes_on pc rd (bit_or (register x rs1) (register x rs2))
 plan x pc (And rd rs1 rs2) = goes_on pc rd (bit_and (register x rs1) (register x rs2))
-plan x pc (Addw rd rs1 rs2) = goes_on pc rd (extended 32 (plus (register x rs1) (register x rs2)))
-plan x pc (Subw rd rs1 rs2) = goes_on pc rd (extended 32 (minus (register x rs1) (register x rs2)))
-plan x pc (Sllw rd rs1 rs2) = goes_on pc rd (extended 32 (left (register x rs1) (register x rs2 % 2 ^ 5)))
-plan x pc (Srlw rd rs1 rs2) = goes_on pc rd (extended 32 (register x rs1 % 2 ^ 32 / 2 ^ (register x rs2 % 2 ^ 5)))
-plan x pc (Sraw rd rs1 rs2) = goes_on pc rd (right_signed (extended 32 (register x rs1)) (register x rs2 % 2 ^ 5))
+plan x pc (Addw rd rs1 rs2) = goes_on pc rd (sign_extended 32 (plus (register x rs1) (register x rs2)))
+plan x pc (Subw rd rs1 rs2) = goes_on pc rd (sign_extended 32 (minus (register x rs1) (register x rs2)))
+plan x pc (Sllw rd rs1 rs2) = goes_on pc rd (sign_extended 32 (left (register x rs1) (register x rs2 % 2 ^ 5)))
+plan x pc (Srlw rd rs1 rs2) = goes_on pc rd (sign_extended 32 (register x rs1 % 2 ^ 32 / 2 ^ (register x rs2 % 2 ^ 5)))
+plan x pc (Sraw rd rs1 rs2) = goes_on pc rd (right_signed (sign_extended 32 (register x rs1)) (register x rs2 % 2 ^ 5))
 plan x pc Fence = goes_on pc 0 0
 plan x pc Ecall = plans.Ecall
 plan x pc Ebreak = plans.Trap 3
@@ -131,7 +131,7 @@ IsFinished old new rd value pc = (new.pc ≡ pc) × (registers new ≡ written (
 abbrev pub picked : (word addr size : ℕ) (signed : Bool) → ℕ
 picked word addr size signed =
     let above = word / 2 ^ (8 * (addr % 8)) in
-    if signed then extended (8 * size) above else above % 2 ^ (8 * size)
+    if signed then sign_extended (8 * size) above else above % 2 ^ (8 * size)
 
 -- a word with another part at an address: the bits below it, the low bits of the value, the bits above it
 abbrev pub merged : (word addr size value : ℕ) → ℕ

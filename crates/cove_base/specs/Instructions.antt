@@ -72,8 +72,8 @@ branch_of funct3 rs1 rs2 imm =
     else None
 
 -- the loads
-abbrev pub load_of : (funct3 rd rs1 : ℕ) → ℤ → Option Insn
-load_of funct3 rd rs1 imm =
+abbrev pub load_insn : (funct3 rd rs1 : ℕ) → ℤ → Option Insn
+load_insn funct3 rd rs1 imm =
     if funct3 == 0 then Some (Lb rd rs1 imm)
     else if funct3 == 1 then Some (Lh rd rs1 imm)
     else if funct3 == 2 then Some (Lw rd rs1 imm)
@@ -84,8 +84,8 @@ load_of funct3 rd rs1 imm =
     else None
 
 -- the stores
-abbrev pub store_of : (funct3 rs1 rs2 : ℕ) → ℤ → Option Insn
-store_of funct3 rs1 rs2 imm =
+abbrev pub store_insn : (funct3 rs1 rs2 : ℕ) → ℤ → Option Insn
+store_insn funct3 rs1 rs2 imm =
     if funct3 == 0 then Some (Sb rs1 rs2 imm)
     else if funct3 == 1 then Some (Sh rs1 rs2 imm)
     else if funct3 == 2 then Some (Sw rs1 rs2 imm)
@@ -171,8 +171,8 @@ decoded word =
     else if opcode word == 0x6f then Some (Jal (rd word) (imm_j word))
     else if opcode word == 0x67 && funct3 word == 0 then Some (Jalr (rd word) (rs1 word) (imm_i word))
     else if opcode word == 0x63 then branch_of (funct3 word) (rs1 word) (rs2 word) (imm_b word)
-    else if opcode word == 0x03 then load_of (funct3 word) (rd word) (rs1 word) (imm_i word)
-    else if opcode word == 0x23 then store_of (funct3 word) (rs1 word) (rs2 word) (imm_s word)
+    else if opcode word == 0x03 then load_insn (funct3 word) (rd word) (rs1 word) (imm_i word)
+    else if opcode word == 0x23 then store_insn (funct3 word) (rs1 word) (rs2 word) (imm_s word)
     else if opcode word == 0x13 && is_shift (funct3 word) then
     shift_of (funct6 word) (funct3 word) (rd word) (rs1 word) (pos (shamt word))
     else if opcode word == 0x13 then immediate_of (funct3 word) (rd word) (rs1 word) (imm_i word)

@@ -79,8 +79,8 @@ selected_register file =
     else None)))
 
 -- the registers by their CSR numbers: siselect, sireg, stopei
-abbrev pub register_of : InterruptFile → (csr : ℕ) → Option FileRegister
-register_of file csr =
+abbrev pub file_register : InterruptFile → (csr : ℕ) → Option FileRegister
+file_register file csr =
     if csr == 0x150 then Some (record { value = file.select; written = λ v. record file { select = v } })
     else (if csr == 0x151 then selected_register file
     else (if csr == 0x15C then Some (record { value = topei file; written = λ _. claimed file })
@@ -94,11 +94,11 @@ new_value Clear old source = bit_and old (bit_not w64 source)
 
 -- what an instruction reads of a register, where there is one
 abbrev pub csr_read : InterruptFile → (csr : ℕ) → Option ℕ
-csr_read file csr = option_map (λ register. register.value) (register_of file csr)
+csr_read file csr = option_map (λ register. register.value) (file_register file csr)
 
 -- a file after a value was written to a register, where there is one
 abbrev pub csr_written : InterruptFile → (csr value : ℕ) → InterruptFile
-csr_written file csr value = option_map_or (λ register. register.written value) (register_of file csr) file
+csr_written file csr value = option_map_or (λ register. register.written value) (file_register file csr) file
 
 -- a file after an instruction that read a register, and wrote it where it writes
 abbrev pub after_csr : InterruptFile → (csr : ℕ) → CsrMode → (source : ℕ) → (writes : Bool) → InterruptFile

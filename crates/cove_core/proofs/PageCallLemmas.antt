@@ -13,7 +13,7 @@ use Rattle.cove_base.specs.declared.statuses.Status.TheVariants.{InvalidParam, I
 use Rattle.cove_core.proofs.CallLemmas.{accepts, refuses, lawful_allowed}
 use Rattle.cove_core.proofs.RangeLemmas.{named, RangeFound, range_found, checks_pass, fault_answers}
 use Rattle.cove_core.specs.Called.{Called, IsReady, no_tables}
-use Rattle.cove_core.specs.Replies.{accepted, refused_with, status_of}
+use Rattle.cove_core.specs.Replies.{accepted, refused_with, fault_status}
 use Rattle.cove_model.proofs.FrameProofs.{convert_keeps_frames, reclaim_zeroes_frames}
 use Rattle.cove_model.proofs.LawfulProofs.{convert_is_lawful, reclaim_is_lawful}
 use Rattle.cove_model.proofs.Runs.{every_at, every_from}
@@ -95,16 +95,16 @@ free_by_floor harts numbers floor word least (inr is) =
 module _ (pages harts hart : ℕ) (words : List ℕ) (frames : List (List ℕ)) (ready : IsReady pages harts hart words frames) (base n : ℕ) where
   -- the range has a fault
   module _ (fault : RangeFault) (at : range_at base n pages ≡ Err fault) where
-    pub convert_faults : Called pages harts hart (Convert base n) words words frames frames (refused_with (status_of fault))
+    pub convert_faults : Called pages harts hart (Convert base n) words words frames frames (refused_with (fault_status fault))
     convert_faults =
-        refuses pages harts hart (Convert base n) words frames (refused_with (status_of fault)) (λ S stand.
+        refuses pages harts hart (Convert base n) words frames (refused_with (fault_status fault)) (λ S stand.
         let size : length S.pages ≡ pages = stand.stands.owners.page_count in
         ap (λ k. first_failing (plain (is_bad_count n) InvalidParam ∷ plain (is_unaligned base) InvalidAddress ∷ plain (is_outside base n k) InvalidAddress ∷ plain (not (every is_host (base / 4096) n S.pages)) InvalidAddress ∷ NoneShared S base n ∷ [])) size
         ∙ fault_answers (is_bad_count n) (is_unaligned base) (is_outside base n pages) (named base n) fault (plain (not (every is_host (base / 4096) n S.pages)) InvalidAddress ∷ NoneShared S base n ∷ []) at)
 
-    pub reclaim_faults : Called pages harts hart (Reclaim base n) words words frames frames (refused_with (status_of fault))
+    pub reclaim_faults : Called pages harts hart (Reclaim base n) words words frames frames (refused_with (fault_status fault))
     reclaim_faults =
-        refuses pages harts hart (Reclaim base n) words frames (refused_with (status_of fault)) (λ S stand.
+        refuses pages harts hart (Reclaim base n) words frames (refused_with (fault_status fault)) (λ S stand.
         let size : length S.pages ≡ pages = stand.stands.owners.page_count in
         ap (λ k. first_failing (plain (is_bad_count n) InvalidParam ∷ plain (is_unaligned base) InvalidAddress ∷ plain (is_outside base n k) InvalidAddress ∷ plain (not (every is_free (base / 4096) n S.pages)) InvalidAddress ∷ [])) size
         ∙ fault_answers (is_bad_count n) (is_unaligned base) (is_outside base n pages) (named base n) fault (plain (not (every is_free (base / 4096) n S.pages)) InvalidAddress ∷ []) at)

@@ -7,7 +7,7 @@ use Rattle.cove_base.specs.declared.ranges.PageRange.{PageRange}
 use Rattle.cove_base.specs.declared.ranges.RangeFault.{RangeFault}
 use Rattle.cove_base.specs.declared.ranges.RangeFault.TheVariants.{BadCount, Unaligned, Outside}
 use Rattle.cove_base.specs.declared.statuses.Status.TheVariants.{InvalidParam, InvalidAddress}
-use Rattle.cove_core.specs.Replies.{refused_with, status_of}
+use Rattle.cove_core.specs.Replies.{refused_with, fault_status}
 use Rattle.cove_model.specs.Refusals.{Check, first_failing, plain}
 
 -- the pages that a call names
@@ -47,8 +47,8 @@ pub checks_pass : (a b c : Bool) (rest : List Check) → a ≡ false → b ≡ f
 checks_pass a b c rest x y z = rw (x, y, z)
 
 -- where a range has a fault, its checks give the fault's status
-pub fault_answers : (a b c : Bool) (range : PageRange) (fault : RangeFault) (rest : List Check) → ◌≡◌ {A = Result PageRange RangeFault} (if a then Err BadCount else if b then Err Unaligned else if c then Err Outside else Ok range) (Err fault) → first_failing (plain a InvalidParam ∷ plain b InvalidAddress ∷ plain c InvalidAddress ∷ rest) ≡ Some (refused_with (status_of fault))
-fault_answers true b c range fault rest e = let is : BadCount ≡ fault = cc in ap (λ (f : RangeFault). Some (refused_with (status_of f))) is
-fault_answers false true c range fault rest e = let is : Unaligned ≡ fault = cc in ap (λ (f : RangeFault). Some (refused_with (status_of f))) is
-fault_answers false false true range fault rest e = let is : Outside ≡ fault = cc in ap (λ (f : RangeFault). Some (refused_with (status_of f))) is
+pub fault_answers : (a b c : Bool) (range : PageRange) (fault : RangeFault) (rest : List Check) → ◌≡◌ {A = Result PageRange RangeFault} (if a then Err BadCount else if b then Err Unaligned else if c then Err Outside else Ok range) (Err fault) → first_failing (plain a InvalidParam ∷ plain b InvalidAddress ∷ plain c InvalidAddress ∷ rest) ≡ Some (refused_with (fault_status fault))
+fault_answers true b c range fault rest e = let is : BadCount ≡ fault = cc in ap (λ (f : RangeFault). Some (refused_with (fault_status f))) is
+fault_answers false true c range fault rest e = let is : Unaligned ≡ fault = cc in ap (λ (f : RangeFault). Some (refused_with (fault_status f))) is
+fault_answers false false true range fault rest e = let is : Outside ≡ fault = cc in ap (λ (f : RangeFault). Some (refused_with (fault_status f))) is
 fault_answers false false false range fault rest e = absurd cc

@@ -14,7 +14,7 @@ abbrev pub refused_with : Status → Reply
 refused_with status = record { status = status; value = 0 }
 
 -- the status of a call whose range has a fault
-abbrev pub status_of : RangeFault → Status
-status_of BadCount = InvalidParam
-status_of Unaligned = InvalidAddress
-status_of Outside = InvalidAddress
+abbrev pub fault_status : RangeFault → Status
+fault_status BadCount = InvalidParam
+fault_status Unaligned = InvalidAddress
+fault_status Outside = InvalidAddress

@@ -5,7 +5,7 @@ ghost use Rattle.cove_base.specs.PageWords.{host};
 ghost use Rattle.cove_base.specs.Places.{epoch_word, page_word};
 ghost use Rattle.cove_base.specs.Stores.{AllAllowed, fills, stored};
 ghost use Rattle.cove_core.specs.Called.{Called, IsReady, no_tables};
-ghost use Rattle.cove_core.specs.Replies.{accepted, refused_with, status_of};
+ghost use Rattle.cove_core.specs.Replies.{accepted, refused_with, fault_status};
 ghost use Rattle.cove_core.specs.Zeros.{AreZeros};
 ghost use Rattle.cove_model.specs.LawfulStores.{AllowsLawful};
 ghost use Rattle.cove_model.specs.WordLaws.{zeroed};
@@ -186,7 +186,7 @@ fn refused(status: Status) -> Reply
 
 // The status of a call whose range has a fault.
 fn status_of(fault: RangeFault) -> Status
-    ensures { result ≡ status_of fault }
+    ensures { result ≡ fault_status fault }
 {
     match fault {
         RangeFault::BadCount => Status::InvalidParam,

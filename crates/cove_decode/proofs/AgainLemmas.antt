@@ -2,7 +2,7 @@ use Rattle.std.proofs.Common.{◌≡◌, ℕ, ◌+◌, ◌*◌, ◌/◌, ◌%◌
 use Rattle.std.specs.Prelude.{IfSome}
 use Rattle.std.proofs.lemmas.Bool.{cond_both, eqb-true, and_parts}
 use Rattle.std.proofs.lemmas.Int.{ints}
-use Rattle.cove_base.specs.Instructions.{decoded, opcode, rd, funct3, rs1, rs2, funct7, funct6, csr, shamt, is_shift, imm_i, imm_s, imm_b, imm_u, imm_j, branch_of, load_of, store_of, immediate_of, shift_of, shift_of_32, operation_of, operation_of_32, csr_of, whole_word_of}
+use Rattle.cove_base.specs.Instructions.{decoded, opcode, rd, funct3, rs1, rs2, funct7, funct6, csr, shamt, is_shift, imm_i, imm_s, imm_b, imm_u, imm_j, branch_of, load_insn, store_insn, immediate_of, shift_of, shift_of_32, operation_of, operation_of_32, csr_of, whole_word_of}
 use Rattle.cove_base.specs.Encodings.{encoded, bits_of, significant, Fits, IsImmediate, IsShift, r_format, i_format, s_format, b_format, u_format, j_format}
 use Rattle.cove_base.specs.declared.instructions.Insn.{Insn}
 use Rattle.cove_base.specs.declared.instructions.Insn.TheVariants.{Lui, Auipc, Jal, Jalr, Addiw, Fence}
@@ -118,7 +118,7 @@ branch_read w below op =
     else_if (λ e. some fits (leaf 7 e)) (λ _.
     nothing))))))
 
-load_read : (w : ℕ) → w < 2 ^ 32 → opcode w ≡ 0x03 → IsRead w (load_of (funct3 w) (rd w) (rs1 w) (imm_i w))
+load_read : (w : ℕ) → w < 2 ^ 32 → opcode w ≡ 0x03 → IsRead w (load_insn (funct3 w) (rd w) (rs1 w) (imm_i w))
 load_read w below op =
     let same : w ≡ significant w = kept w 0x03 op refl in
     let fits : (rd w < 32) × (rs1 w < 32) × IsImmediate 12 0 (imm_i w) = (register_fits (w / 2 ^ 7), register_fits (w / 2 ^ 15), imm_i_fits w below) in
@@ -133,7 +133,7 @@ load_read w below op =
     else_if (λ e. some fits (leaf 6 e)) (λ _.
     nothing)))))))
 
-store_read : (w : ℕ) → w < 2 ^ 32 → opcode w ≡ 0x23 → IsRead w (store_of (funct3 w) (rs1 w) (rs2 w) (imm_s w))
+store_read : (w : ℕ) → w < 2 ^ 32 → opcode w ≡ 0x23 → IsRead w (store_insn (funct3 w) (rs1 w) (rs2 w) (imm_s w))
 store_read w below op =
     let same : w ≡ significant w = kept w 0x23 op refl in
     let fits : (rs1 w < 32) × (rs2 w < 32) × IsImmediate 12 0 (imm_s w) = (register_fits (w / 2 ^ 15), register_fits (w / 2 ^ 20), imm_s_fits w below) in

@@ -3,7 +3,7 @@ use Rattle.std.proofs.lemmas.Bool.Decides.{nat_tests}
 use Rattle.std.proofs.lemmas.Int.{to_z-of_z, to_z_pos}
 use Rattle.std.specs.Int.{w64, cast_signed, cast_unsigned}
 use Rattle.std.specs.Prelude.{FitsSigned}
-use Rattle.cove_base.specs.Instructions.{decoded, opcode, rd, funct3, rs1, rs2, funct7, funct6, csr, shamt, is_shift, imm_i, imm_s, imm_b, imm_u, imm_j, branch_of, load_of, store_of, immediate_of, shift_of, shift_of_32, operation_of, operation_of_32, csr_of, whole_word_of}
+use Rattle.cove_base.specs.Instructions.{decoded, opcode, rd, funct3, rs1, rs2, funct7, funct6, csr, shamt, is_shift, imm_i, imm_s, imm_b, imm_u, imm_j, branch_of, load_insn, store_insn, immediate_of, shift_of, shift_of_32, operation_of, operation_of_32, csr_of, whole_word_of}
 use Rattle.cove_base.specs.declared.instructions.Insn.{Insn}
 use Rattle.cove_base.specs.declared.instructions.Insn.TheVariants.{Lui, Auipc, Jal, Jalr, Addiw, Fence}
 
@@ -15,10 +15,10 @@ is_false m n h = grind (arith, nat_tests)
 pub at_branch : (w : ℕ) → opcode w ≡ 0x63 → decoded w ≡ branch_of (funct3 w) (rs1 w) (rs2 w) (imm_b w)
 at_branch w op = rw op refl
 
-pub at_load : (w : ℕ) → opcode w ≡ 0x03 → decoded w ≡ load_of (funct3 w) (rd w) (rs1 w) (imm_i w)
+pub at_load : (w : ℕ) → opcode w ≡ 0x03 → decoded w ≡ load_insn (funct3 w) (rd w) (rs1 w) (imm_i w)
 at_load w op = rw op refl
 
-pub at_store : (w : ℕ) → opcode w ≡ 0x23 → decoded w ≡ store_of (funct3 w) (rs1 w) (rs2 w) (imm_s w)
+pub at_store : (w : ℕ) → opcode w ≡ 0x23 → decoded w ≡ store_insn (funct3 w) (rs1 w) (rs2 w) (imm_s w)
 at_store w op = rw op refl
 
 pub at_shift : (w : ℕ) → opcode w ≡ 0x13 → is_shift (funct3 w) ≡ true → decoded w ≡ shift_of (funct6 w) (funct3 w) (rd w) (rs1 w) (pos (shamt w))
@@ -68,16 +68,16 @@ from_branch w r f a b i op fits e e0 e1 e2 e3 =
     e ∙ (ap (branch_of f a b) (to_z-of_z w64 i fits) ∙ (rw (e0, e1, e2, e3) refl ∙ sym (at_branch w op)))
 
 pub from_load : (w : ℕ) (r : Option Insn) (f d a : ℕ) (i : ℤ)
-    → opcode w ≡ 0x03 → FitsSigned w64 i → r ≡ load_of f d a (cast_signed w64 (cast_unsigned w64 i))
+    → opcode w ≡ 0x03 → FitsSigned w64 i → r ≡ load_insn f d a (cast_signed w64 (cast_unsigned w64 i))
     → f ≡ funct3 w → d ≡ rd w → a ≡ rs1 w → i ≡ imm_i w → r ≡ decoded w
 from_load w r f d a i op fits e e0 e1 e2 e3 =
-    e ∙ (ap (load_of f d a) (to_z-of_z w64 i fits) ∙ (rw (e0, e1, e2, e3) refl ∙ sym (at_load w op)))
+    e ∙ (ap (load_insn f d a) (to_z-of_z w64 i fits) ∙ (rw (e0, e1, e2, e3) refl ∙ sym (at_load w op)))
 
 pub from_store : (w : ℕ) (r : Option Insn) (f a b : ℕ) (i : ℤ)
-    → opcode w ≡ 0x23 → FitsSigned w64 i → r ≡ store_of f a b (cast_signed w64 (cast_unsigned w64 i))
+    → opcode w ≡ 0x23 → FitsSigned w64 i → r ≡ store_insn f a b (cast_signed w64 (cast_unsigned w64 i))
     → f ≡ funct3 w → a ≡ rs1 w → b ≡ rs2 w → i ≡ imm_s w → r ≡ decoded w
 from_store w r f a b i op fits e e0 e1 e2 e3 =
-    e ∙ (ap (store_of f a b) (to_z-of_z w64 i fits) ∙ (rw (e0, e1, e2, e3) refl ∙ sym (at_store w op)))
+    e ∙ (ap (store_insn f a b) (to_z-of_z w64 i fits) ∙ (rw (e0, e1, e2, e3) refl ∙ sym (at_store w op)))
 
 pub from_immediate : (w : ℕ) (r : Option Insn) (f d a : ℕ) (i : ℤ)
     → opcode w ≡ 0x13 → (f % 4 ≡ 1 → ⊥) → FitsSigned w64 i → r ≡ immediate_of f d a (cast_signed w64 (cast_unsigned w64 i))

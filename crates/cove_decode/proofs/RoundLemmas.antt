@@ -1,7 +1,7 @@
 use Rattle.std.proofs.Common.{◌≡◌, ℕ, ◌+◌, ◌*◌, ◌/◌, ◌%◌, ◌^◌, ◌<◌, ◌==◌, ◌&&◌, ℤ, pos, negsuc, true, false, Some, refl, sym, ap, ◌∙◌, arith}
 use Rattle.std.proofs.lemmas.Bool.{cond_both, eqb-true, and_parts}
 use Rattle.std.proofs.lemmas.Int.{ints}
-use Rattle.cove_base.specs.Instructions.{decoded, signed, opcode, funct3, is_shift, imm_i, imm_s, imm_b, imm_u, imm_j, branch_of, load_of, store_of, immediate_of, shift_of, shift_of_32, operation_of, operation_of_32, csr_of}
+use Rattle.cove_base.specs.Instructions.{decoded, signed, opcode, funct3, is_shift, imm_i, imm_s, imm_b, imm_u, imm_j, branch_of, load_insn, store_insn, immediate_of, shift_of, shift_of_32, operation_of, operation_of_32, csr_of}
 use Rattle.cove_base.specs.Encodings.{encoded, bits_of, significant, Fits, IsImmediate, IsShift, r_format, i_format, s_format, b_format, u_format, j_format}
 use Rattle.cove_base.specs.declared.instructions.Insn.{Insn}
 use Rattle.cove_base.specs.declared.instructions.Insn.TheVariants.{Lui, Auipc, Jal, Jalr, Beq, Bne, Blt, Bge, Bltu, Bgeu, Lb, Lh, Lw, Ld, Lbu, Lhu, Lwu, Sb, Sh, Sw, Sd, Addi, Slti, Sltiu, Xori, Ori, Andi, Slli, Srli, Srai, Addiw, Slliw, Srliw, Sraiw, Add, Sub, Sll, Slt, Sltu, Xor, Srl, Sra, Or, And, Addw, Subw, Sllw, Srlw, Sraw, Fence, Ecall, Ebreak, Wfi, Csrrw, Csrrs, Csrrc, Csrrwi, Csrrsi, Csrrci}
@@ -12,7 +12,7 @@ use Rattle.cove_decode.proofs.OpcodeLemmas.{at_branch, at_load, at_store, at_shi
 of_branch : (w d f a b h : ℕ) (i : ℤ) → HasFields w 0x63 d f a b h → imm_b w ≡ i → decoded w ≡ branch_of f a b i
 of_branch w d f a b h i has e = at_branch w has.opcode ∙ rw (has.funct3, has.rs1, has.rs2, e) refl
 
-of_store : (w d f a b h : ℕ) (i : ℤ) → HasFields w 0x23 d f a b h → imm_s w ≡ i → decoded w ≡ store_of f a b i
+of_store : (w d f a b h : ℕ) (i : ℤ) → HasFields w 0x23 d f a b h → imm_s w ≡ i → decoded w ≡ store_insn f a b i
 of_store w d f a b h i has e = at_store w has.opcode ∙ rw (has.funct3, has.rs1, has.rs2, e) refl
 
 of_operation : (w d f a b h : ℕ) → HasFields w 0x33 d f a b h → decoded w ≡ operation_of h f d a b
@@ -25,7 +25,7 @@ of_shift_32 : (w d f a b h : ℕ) → HasFields w 0x1b d f a b h → (f == 0) �
 of_shift_32 w d f a b h has test =
     at_shift_32 w has.opcode (rw has.funct3 test) ∙ rw (has.funct3, has.funct7, has.rd, has.rs1, has.rs2) refl
 
-of_load : (w d f a n : ℕ) (i : ℤ) → HasBits w 0x03 d f a n → imm_i w ≡ i → decoded w ≡ load_of f d a i
+of_load : (w d f a n : ℕ) (i : ℤ) → HasBits w 0x03 d f a n → imm_i w ≡ i → decoded w ≡ load_insn f d a i
 of_load w d f a n i has e = at_load w has.opcode ∙ rw (has.funct3, has.rd, has.rs1, e) refl
 
 of_immediate : (w d f a n : ℕ) (i : ℤ) → HasBits w 0x13 d f a n → is_shift f ≡ false → imm_i w ≡ i
@@ -72,7 +72,7 @@ branch_again f a b i hf ha hb fits =
     ∙ (ap (signed 13) (b_bits-pieces n (bits_of_below 13 1 i refl fits) fits.2) ∙ signed-bits_of 13 1 i refl fits))
 
 store_again : (f a b : ℕ) (i : ℤ) → f < 8 → a < 32 → b < 32 → IsImmediate 12 0 i
-    → decoded (s_format 0x23 f a b (bits_of 12 i)) ≡ store_of f a b i
+    → decoded (s_format 0x23 f a b (bits_of 12 i)) ≡ store_insn f a b i
 store_again f a b i hf ha hb fits =
     let n : ℕ = bits_of 12 i in
     let h : ℕ = n / 2 ^ 5 in
@@ -101,7 +101,7 @@ shift_32_again h f d a (pos n) hf test hd ha (low, high) =
 shift_32_again h f d a (negsuc n) hf test hd ha (low, high) = absurd (omega (arith, ints))
 
 load_again : (f d a : ℕ) (i : ℤ) → f < 8 → d < 32 → a < 32 → IsImmediate 12 0 i
-    → decoded (i_format 0x03 f d a (bits_of 12 i)) ≡ load_of f d a i
+    → decoded (i_format 0x03 f d a (bits_of 12 i)) ≡ load_insn f d a i
 load_again f d a i hf hd ha fits =
     let n : ℕ = bits_of 12 i in
     let w : ℕ = i_format 0x03 f d a n in

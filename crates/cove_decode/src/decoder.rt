@@ -1,6 +1,6 @@
 ghost use Rattle.std.specs.Prelude.{◌≡◌, IfSome};
 ghost use Rattle.cove_base.specs.Encodings.{encoded, significant, Fits};
-ghost use Rattle.cove_base.specs.Instructions.{decoded, branch_of, load_of, store_of, immediate_of, shift_of, shift_of_32, operation_of, operation_of_32, csr_of, whole_word_of};
+ghost use Rattle.cove_base.specs.Instructions.{decoded, branch_of, load_insn, store_insn, immediate_of, shift_of, shift_of_32, operation_of, operation_of_32, csr_of, whole_word_of};
 ghost use Rattle.cove_base.specs.declared.instructions.Insn.{Insn};
 
 use crate::fields::{field, imm_b, imm_i, imm_j, imm_s, imm_u, register};
@@ -78,7 +78,7 @@ fn branch(funct3: u32, rs1: u8, rs2: u8, imm: i64) -> Option<Insn>
 }
 
 fn load(funct3: u32, rd: u8, rs1: u8, imm: i64) -> Option<Insn>
-    ensures { result ≡ load_of funct3 rd rs1 imm }
+    ensures { result ≡ load_insn funct3 rd rs1 imm }
 {
     Some(match funct3 {
         0 => Insn::Lb { rd, rs1, imm },
@@ -93,7 +93,7 @@ fn load(funct3: u32, rd: u8, rs1: u8, imm: i64) -> Option<Insn>
 }
 
 fn store(funct3: u32, rs1: u8, rs2: u8, imm: i64) -> Option<Insn>
-    ensures { result ≡ store_of funct3 rs1 rs2 imm }
+    ensures { result ≡ store_insn funct3 rs1 rs2 imm }
 {
     Some(match funct3 {
         0 => Insn::Sb { rs1, rs2, imm },

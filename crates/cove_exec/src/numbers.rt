@@ -1,5 +1,5 @@
 ghost use Rattle.std.specs.Prelude.{◌≡◌, ◌≤◌, ◌<◌, ◌%◌, ◌^◌};
-ghost use Rattle.cove_base.specs.Executions.{extended, right_signed, is_less_signed};
+ghost use Rattle.cove_base.specs.Executions.{sign_extended, right_signed, is_less_signed};
 
 /// The low bits of a word, as many as `width`.
 pub fn low(a: u64, width: u32) -> u64
@@ -17,7 +17,7 @@ pub fn low(a: u64, width: u32) -> u64
 pub fn extended(a: u64, width: u32) -> u64
     requires low { 0 < width }
     requires high { width ≤ 64 }
-    ensures { result ≡ extended width a }
+    ensures { result ≡ sign_extended width a }
 {
     let bits = low(a, width);
     let half = 1 << (width - 1);

@@ -1,6 +1,6 @@
 ghost use Rattle.std.specs.Prelude.{◌≡◌, ◌<◌};
 ghost use Rattle.cove_base.specs.Encodings.{Fits};
-ghost use Rattle.cove_base.specs.Executions.{plan, plus, word_of, goes_on, jumps, branches, loads, stores, IsFinished, IsUsable};
+ghost use Rattle.cove_base.specs.Executions.{plan, plus, as_word, goes_on, jumps, branches, loads, stores, IsFinished, IsUsable};
 ghost use Rattle.cove_base.specs.Registers.{registers, register};
 
 use crate::numbers::{extended, is_less_signed, low, right_signed};
@@ -83,7 +83,7 @@ fn stores(addr: u64, size: u8, value: u64) -> Plan
 /// The sum of a register and an immediate.
 fn sum(regs: &Regs, rs1: u8, imm: i64) -> u64
     requires { rs1 < 32 }
-    ensures { result ≡ plus (register (registers regs.now) rs1) (word_of imm) }
+    ensures { result ≡ plus (register (registers regs.now) rs1) (as_word imm) }
 {
     regs.get(rs1).wrapping_add(imm.cast_unsigned())
 }

@@ -32,7 +32,7 @@ use Rattle.cove_text.proofs.JoinedWords.{is_word-hex_text, is_word-natural_text,
 use Rattle.cove_text.proofs.Numerals.{number_of-natural_text, number_of-number_text}
 use Rattle.cove_journal.specs.Forms.{has_line, is_act_shown, is_event_shown, is_exit_shown, is_fault_cause, is_sized, is_trap_cause}
 use Rattle.cove_journal.specs.Journals.{is_readable}
-use Rattle.cove_journal.specs.Reading.{act_of, acted_of, answer_of, answered_of, arguments_of, call_event_of, entry_of, event_of, fault_of, how_of, load_of, made_of, memory_word_of, status_of, store_of, trap_of}
+use Rattle.cove_journal.specs.Reading.{act_of, acted_of, answer_of, answered_of, arguments_of, call_event_of, entry_named, event_named, fault_of, how_of, load_named, made_of, memory_word_of, status_named, store_named, trap_of}
 use Rattle.cove_journal.proofs.HexRead.{bytes_are_small, memory_word_is_no_fault, memory_word_is_read, quote_is_read, word_bytes_are_small}
 
 -- ---- words
@@ -95,7 +95,7 @@ how_is_read : (how : How) → how_of (how_text how) ≡ Some how
 how_is_read Hit = refl
 how_is_read Walk = refl
 
-status_is_read : (status : Status) → status_of (status_text status) ≡ Some status
+status_is_read : (status : Status) → status_named (status_text status) ≡ Some status
 status_is_read Success = refl
 status_is_read _ = refl
 
@@ -107,7 +107,7 @@ few_arguments : (act : GuestAct) → length (act_arguments act) ≤ 5
 few_arguments acts.Other = omega arith
 few_arguments _ = omega arith
 
-answer_from : (s v : List ℕ) (status : Status) (value : ℕ) → status_of s ≡ Some status → number_of v ≡ Some value
+answer_from : (s v : List ℕ) (status : Status) (value : ℕ) → status_named s ≡ Some status → number_of v ≡ Some value
     → answer_of (s ∷ v ∷ []) ≡ Some (record { status = status; value = value }, [])
 answer_from s v status value es ev = rw (es, ev) refl
 
@@ -139,7 +139,7 @@ arguments_are_read args (n ∷ ns) rest room fits =
 
 -- ---- calls
 
-call_is_asked : (call : HostCall) (words : List (List ℕ)) → event_of (word_of call ∷ words) ≡ call_event_of (word_of call) words
+call_is_asked : (call : HostCall) (words : List (List ℕ)) → event_named (word_of call ∷ words) ≡ call_event_of (word_of call) words
 call_is_asked (Convert base n) words = refl
 call_is_asked _ words = refl
 
@@ -152,7 +152,7 @@ call_from word words rest args call reply ea ec er =
     ∙ ap (λ (o : Option (Reply × List (List ℕ))). option_map (λ parts. events.Call call parts.0) o) er
 
 call_event_is_read : (call : HostCall) (reply : Reply) → is_sized (events.Call call reply) ≡ true
-    → event_of (event_words (events.Call call reply)) ≡ Some (events.Call call reply)
+    → event_named (event_words (events.Call call reply)) ≡ Some (events.Call call reply)
 call_event_is_read call reply fits =
     let parts = and_parts (list_all is_u64 (arguments call)) (is_u64 reply.value) fits in
     let few = length-arguments call in
@@ -172,7 +172,7 @@ answered_is_read acts.Evidence reply shown = refused_evidence reply.status reply
 answered_is_read _ reply shown = refl
 
 guest_is_read : (act : GuestAct) (reply : Reply) → is_act_shown act reply.status ≡ true → is_sized (events.Guest act reply) ≡ true
-    → event_of (event_words (events.Guest act reply)) ≡ Some (events.Guest act reply)
+    → event_named (event_words (events.Guest act reply)) ≡ Some (events.Guest act reply)
 guest_is_read act reply shown fits =
     let parts = and_parts (list_all is_u64 (act_arguments act)) (is_u64 reply.value) fits in
     let few = few_arguments act in
@@ -207,7 +207,7 @@ fault_is_read cause page shown =
     (number_of-natural_text cause (omega (arith, small))) (number_of-number_text (page.0 * 4096) (omega (arith, near)))
     (lt-ltb cause 256 small) (omega arith)
 
-exit_is_read : (exit : Exit) → is_exit_shown exit ≡ true → event_of (event_words (events.Exit exit)) ≡ Some (events.Exit exit)
+exit_is_read : (exit : Exit) → is_exit_shown exit ≡ true → event_named (event_words (events.Exit exit)) ≡ Some (events.Exit exit)
 exit_is_read (exits.Fault cause page) shown = ap (λ (o : Option Exit). option_map (λ e. events.Exit e) o) (fault_is_read cause page shown)
 exit_is_read (exits.Trap cause) shown =
     let small = trap_cause_is_small cause shown in
@@ -219,31 +219,31 @@ exit_is_read _ shown = refl
 
 load_from : (a h v : List ℕ) (addr : ℕ) (how : How) (value : ℕ)
     → number_of a ≡ Some addr → how_of h ≡ Some how → memory_word_of v ≡ Some value → bytes_eq v (codes "fault") ≡ false
-    → load_of (a ∷ h ∷ v ∷ []) ≡ Some (events.Load addr how value)
+    → load_named (a ∷ h ∷ v ∷ []) ≡ Some (events.Load addr how value)
 load_from a h v addr how value ea eh ev no_fault = rw (ea, no_fault, eh, ev) refl
 
-load_fault_from : (a : List ℕ) (addr : ℕ) → number_of a ≡ Some addr → load_of (a ∷ codes "walk" ∷ codes "fault" ∷ []) ≡ Some (events.LoadFault addr)
+load_fault_from : (a : List ℕ) (addr : ℕ) → number_of a ≡ Some addr → load_named (a ∷ codes "walk" ∷ codes "fault" ∷ []) ≡ Some (events.LoadFault addr)
 load_fault_from a addr ea = rw ea refl
 
 store_from : (a v h : List ℕ) (addr value : ℕ) (how : How) → number_of a ≡ Some addr → number_of v ≡ Some value → how_of h ≡ Some how
-    → store_of (a ∷ v ∷ h ∷ codes "ok" ∷ []) ≡ Some (events.Store addr value how)
+    → store_named (a ∷ v ∷ h ∷ codes "ok" ∷ []) ≡ Some (events.Store addr value how)
 store_from a v h addr value how ea ev eh = rw (ea, ev, eh) refl
 
 store_fault_from : (a v : List ℕ) (addr value : ℕ) → number_of a ≡ Some addr → number_of v ≡ Some value
-    → store_of (a ∷ v ∷ codes "walk" ∷ codes "fault" ∷ []) ≡ Some (events.StoreFault addr value)
+    → store_named (a ∷ v ∷ codes "walk" ∷ codes "fault" ∷ []) ≡ Some (events.StoreFault addr value)
 store_fault_from a v addr value ea ev = rw (ea, ev) refl
 
-fetch_is_read : (how : How) → event_of (event_words (events.Fetch how)) ≡ Some (events.Fetch how)
+fetch_is_read : (how : How) → event_named (event_words (events.Fetch how)) ≡ Some (events.Fetch how)
 fetch_is_read Hit = refl
 fetch_is_read Walk = refl
 
-access_is_read : (how : How) → event_of (event_words (events.Access how)) ≡ Some (events.Access how)
+access_is_read : (how : How) → event_named (event_words (events.Access how)) ≡ Some (events.Access how)
 access_is_read Hit = refl
 access_is_read Walk = refl
 
 -- ---- events and entries
 
-event_is_read : (event : Event) → is_event_shown event ≡ true → is_sized event ≡ true → event_of (event_words event) ≡ Some event
+event_is_read : (event : Event) → is_event_shown event ≡ true → is_sized event ≡ true → event_named (event_words event) ≡ Some event
 event_is_read (events.Call call reply) shown fits = call_event_is_read call reply fits
 event_is_read (events.Load addr how value) shown fits =
     let parts = and_parts (is_u64 addr) (is_u64 value) fits in
@@ -267,16 +267,16 @@ event_is_read (events.Evidence quote) shown fits =
 event_is_read (events.Exit exit) shown fits = exit_is_read exit shown
 
 entry_from : (h : List ℕ) (words : List (List ℕ)) (hart : ℕ) (event : Event)
-    → number_of h ≡ Some hart → nat_lt hart 256 ≡ true → event_of words ≡ Some event
-    → entry_of (h ∷ words) ≡ Some (record { hart = record { 0 = hart }; event = event })
+    → number_of h ≡ Some hart → nat_lt hart 256 ≡ true → event_named words ≡ Some event
+    → entry_named (h ∷ words) ≡ Some (record { hart = record { 0 = hart }; event = event })
 entry_from h words hart event eh small ee = rw (eh, small, ee) refl
 
 -- an entry that is readable is read back from the words of its line
-pub entry_is_read : (entry : Entry) → is_readable entry ≡ true → entry_of (text_words (entry_line entry)) ≡ Some entry
+pub entry_is_read : (entry : Entry) → is_readable entry ≡ true → entry_named (text_words (entry_line entry)) ≡ Some entry
 entry_is_read entry readable =
     let both = and_parts (has_line entry) (is_sized entry.event) readable in
     let parts = and_parts (nat_lt entry.hart.0 8) (is_event_shown entry.event) both.0 in
     let small : entry.hart.0 < 8 = ltb-true entry.hart.0 8 parts.0 in
-    ap entry_of (text_words-joined (entry_words entry) (entry_is_words entry readable))
+    ap entry_named (text_words-joined (entry_words entry) (entry_is_words entry readable))
     ∙ entry_from (natural_text entry.hart.0) (event_words entry.event) entry.hart.0 entry.event
     (number_of-natural_text entry.hart.0 (omega (arith, small))) (lt-ltb entry.hart.0 256 (omega arith)) (event_is_read entry.event parts.1 both.1)

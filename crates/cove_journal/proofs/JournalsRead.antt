@@ -16,7 +16,7 @@ use Rattle.cove_model.specs.Reports.{ended_line, entry_line, entry_lines, entry_
 use Rattle.cove_text.proofs.JoinedWords.{is_word-natural_text}
 use Rattle.cove_journal.specs.Journals.{if_reported_by, if_shown_by, is_readable, journal_history, line_entries, line_entry}
 use Rattle.cove_journal.specs.Lines.{last_line_of}
-use Rattle.cove_journal.specs.Reading.{entry_of}
+use Rattle.cove_journal.specs.Reading.{entry_named}
 use Rattle.cove_journal.proofs.EventsRead.{entry_is_read, entry_is_words}
 use Rattle.cove_journal.proofs.HexRead.{false_where_absurd}
 
@@ -127,7 +127,7 @@ if_shown line found entry e = go (is_readable found && bytes_eq (entry_line foun
     go false is none = absurd (none-some entry none)
 
 pub shown : (line : List ℕ) (entry : Entry) → line_entry line ≡ Some entry → IsShown line entry
-shown line entry e = option_and_then_some (if_shown_by line) (entry_of (text_words line)) entry e (λ found is. if_shown line found entry)
+shown line entry e = option_and_then_some (if_shown_by line) (entry_named (text_words line)) entry e (λ found is. if_shown line found entry)
 
 are_readable : (lines : List (List ℕ)) (history : List Entry) → line_entries lines ≡ Some history → list_all is_readable history ≡ true
 are_readable [] history e = ap (list_all is_readable) (sym (same_Some [] history e))

@@ -4,7 +4,7 @@ use Rattle.cove_base.specs.Text.{text_lines, text_words}
 use Rattle.cove_base.specs.declared.events.Entry.{Entry}
 use Rattle.cove_model.specs.Reports.{entry_line, report, report_limit}
 use Rattle.cove_journal.specs.Forms.{has_line, is_sized}
-use Rattle.cove_journal.specs.Reading.{entry_of}
+use Rattle.cove_journal.specs.Reading.{entry_named}
 
 -- an entry that has a line, and whose numbers have 64 bits
 abbrev pub is_readable : Entry → Bool
@@ -16,7 +16,7 @@ if_shown_by line entry = if is_readable entry && bytes_eq (entry_line entry) lin
 
 -- the entry that a line shows: its words name the entry, and are spelled as the entry's line is
 abbrev pub line_entry : List ℕ → Option Entry
-line_entry line = option_and_then (if_shown_by line) (entry_of (text_words line))
+line_entry line = option_and_then (if_shown_by line) (entry_named (text_words line))
 
 -- the entries that lines show, where each line shows one
 abbrev pub line_entries : List (List ℕ) → Option (List Entry)

@@ -26,8 +26,8 @@ abbrev pub how_of : List ℕ → Option How
 how_of word = find (λ how. bytes_eq word (how_text how)) (Hit ∷ Walk ∷ [])
 
 -- the status of a code
-abbrev pub status_of : List ℕ → Option Status
-status_of word =
+abbrev pub status_named : List ℕ → Option Status
+status_named word =
     find (λ status. bytes_eq word (status_text status))
     (Success ∷ Failed ∷ NotSupported ∷ InvalidParam ∷ Denied ∷ InvalidAddress ∷ AlreadyAvailable ∷ AlreadyStarted ∷ AlreadyStopped ∷ [])
 
@@ -38,7 +38,7 @@ memory_word_of word = option_map (from_be_bytes w64) (result_ok (decode_sized wo
 -- an answer, its status and its value, and the words after it
 abbrev pub answer_of : List (List ℕ) → Option (Reply × List (List ℕ))
 answer_of (status ∷ value ∷ words) =
-    option_and_then (λ s. option_map (λ v. (record { status = s; value = v }, words)) (number_of value)) (status_of status)
+    option_and_then (λ s. option_map (λ v. (record { status = s; value = v }, words)) (number_of value)) (status_named status)
 answer_of words = None
 
 abbrev pub load_with : ℕ → List ℕ → List ℕ → Option Event
@@ -46,19 +46,19 @@ load_with addr how last =
     if bytes_eq last (codes "fault") then Some (events.LoadFault addr)
     else option_and_then (λ h. option_map (λ value. events.Load addr h value) (memory_word_of last)) (how_of how)
 
-abbrev pub load_of : List (List ℕ) → Option Event
-load_of (addr ∷ how ∷ last ∷ words) = option_and_then (λ a. load_with a how last) (number_of addr)
-load_of words = None
+abbrev pub load_named : List (List ℕ) → Option Event
+load_named (addr ∷ how ∷ last ∷ words) = option_and_then (λ a. load_with a how last) (number_of addr)
+load_named words = None
 
 abbrev pub store_with : ℕ → ℕ → List ℕ → List ℕ → Option Event
 store_with addr value how last =
     if bytes_eq last (codes "fault") then Some (events.StoreFault addr value)
     else option_map (λ h. events.Store addr value h) (how_of how)
 
-abbrev pub store_of : List (List ℕ) → Option Event
-store_of (addr ∷ value ∷ how ∷ last ∷ words) =
+abbrev pub store_named : List (List ℕ) → Option Event
+store_named (addr ∷ value ∷ how ∷ last ∷ words) =
     option_and_then (λ a. option_and_then (λ v. store_with a v how last) (number_of value)) (number_of addr)
-store_of words = None
+store_named words = None
 
 abbrev pub fetch_of : List (List ℕ) → Option Event
 fetch_of [] = None
@@ -143,17 +143,17 @@ asked_of name words =
     else call_event_of name words
 
 -- the event that words name
-abbrev pub event_of : List (List ℕ) → Option Event
-event_of [] = None
-event_of (name ∷ words) =
-    if bytes_eq name (codes "ld") then load_of words
-    else if bytes_eq name (codes "sd") then store_of words
+abbrev pub event_named : List (List ℕ) → Option Event
+event_named [] = None
+event_named (name ∷ words) =
+    if bytes_eq name (codes "ld") then load_named words
+    else if bytes_eq name (codes "sd") then store_named words
     else if bytes_eq name (codes "fetch") then fetch_of words
     else if bytes_eq name (codes "exec") then exec_of words
     else asked_of name words
 
 -- the entry that the words of a line name
-abbrev pub entry_of : List (List ℕ) → Option Entry
-entry_of [] = None
-entry_of (hart ∷ words) =
-    option_and_then (λ h. if nat_lt h 256 then option_map (λ event. record { hart = record { 0 = h }; event = event }) (event_of words) else None) (number_of hart)
+abbrev pub entry_named : List (List ℕ) → Option Entry
+entry_named [] = None
+entry_named (hart ∷ words) =
+    option_and_then (λ h. if nat_lt h 256 then option_map (λ event. record { hart = record { 0 = h }; event = event }) (event_named words) else None) (number_of hart)

@@ -1,5 +1,5 @@
 ghost use Rattle.std.specs.Prelude.{◌≡◌, ◌∷◌, [], option_map};
-ghost use Rattle.cove_journal.specs.Reading.{act_of, acted_of, answer_of, arguments_of, asked_of, call_event_of, entry_of, event_of, exec_of, exit_of, fault_of, fetch_of, guest_of, how_of, load_of, load_with, memory_word_of, quote_of, quoted_of, status_of, store_of, store_with, trap_of};
+ghost use Rattle.cove_journal.specs.Reading.{act_of, acted_of, answer_of, arguments_of, asked_of, call_event_of, entry_named, event_named, exec_of, exit_of, fault_of, fetch_of, guest_of, how_of, load_named, load_with, memory_word_of, quote_of, quoted_of, status_named, store_named, store_with, trap_of};
 ghost use Rattle.cove_base.specs.Text.{text_words};
 
 use arrayvec::ArrayVec;
@@ -20,7 +20,7 @@ fn read_how(word: &[u8]) -> Option<How>
 }
 
 fn read_status(word: &[u8]) -> Option<Status>
-    ensures { result ≡ status_of word.now }
+    ensures { result ≡ status_named word.now }
 {
     if word == b"0".as_slice() {
         return Some(Status::Success);
@@ -72,7 +72,7 @@ fn read_answer(words: &mut WordIter<'_>) -> Option<Reply>
 }
 
 fn read_load(words: &mut WordIter<'_>) -> Option<Event>
-    ensures { result ≡ load_of words.old }
+    ensures { result ≡ load_named words.old }
 {
     let addr = words.next()?;
     let how = words.next()?;
@@ -95,7 +95,7 @@ fn load_with(addr: u64, how: &[u8], last: &[u8]) -> Option<Event>
 }
 
 fn read_store(words: &mut WordIter<'_>) -> Option<Event>
-    ensures { result ≡ store_of words.old }
+    ensures { result ≡ store_named words.old }
 {
     let addr = words.next()?;
     let value = words.next()?;
@@ -305,7 +305,7 @@ fn read_call(name: &[u8], words: &mut WordIter<'_>) -> Option<Event>
 }
 
 fn read_event(words: &mut WordIter<'_>) -> Option<Event>
-    ensures { result ≡ event_of words.old }
+    ensures { result ≡ event_named words.old }
 {
     let name = words.next()?;
     if name == b"ld".as_slice() {
@@ -339,7 +339,7 @@ fn read_asked(name: &[u8], words: &mut WordIter<'_>) -> Option<Event>
 
 // The entry that the words of a line name, whatever their spelling.
 pub(crate) fn read_entry(bytes: &[u8]) -> Option<Entry>
-    ensures { result ≡ entry_of (text_words bytes.now) }
+    ensures { result ≡ entry_named (text_words bytes.now) }
 {
     let mut words = split_words(bytes);
     let hart = read_number(words.next()?)?;

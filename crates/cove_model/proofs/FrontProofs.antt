@@ -11,11 +11,11 @@ use Rattle.cove_base.specs.declared.faults.Kind.TheVariants.{NotAscii, TooLong}
 use Rattle.cove_base.specs.declared.faults.ScriptFault.{ScriptFault}
 use Rattle.cove_base.specs.Scripts.{ScriptValue}
 use Rattle.cove_base.specs.Text.{is_line_end, lines_from, text_lines, text_words}
-use Rattle.cove_model.specs.Grammar.{Word, Reading, Content, BoardLine, KeyLine, FillLine, PhaseLine, TurnsLine, EndLine, Unknown, hart_content, content_of, is_hart_word, is_ascii, is_remark, has_wrong_count, after, judged, words_read, line_read, lines_read, then_read, fault_at, opening_reading, script_of}
+use Rattle.cove_model.specs.Grammar.{Word, Reading, Content, BoardLine, KeyLine, FillLine, PhaseLine, TurnsLine, EndLine, Unknown, hart_content, content_of, is_hart_word, is_ascii, is_remark, has_wrong_count, reading_after, judged, words_read, line_read, lines_read, then_read, fault_at, opening_reading, script_of}
 use Rattle.cove_model.specs.Fronts.{is_end, is_end_line, front_lines, front_size, with_place, front_of, AreUpToEnd, IsAfterLine, IsFront}
 use Rattle.cove_model.proofs.GrammarLimits.{accepted}
 
--- ---- the line `end` is the one after which the script has ended
+-- ---- the line `end` is the one reading_after which the script has ended
 
 clash : (b : Bool) → b ≡ true → b ≡ false → ⊥
 clash b is not_is = let e : true ≡ false = sym is ∙ not_is in cc
@@ -27,7 +27,7 @@ some_words n e = grind (arith, nat_tests)
 ends_by_form : (R : Reading) (first : Word) (words : List Word) (board key fill phase turns end hart : Bool) → end ≡ bytes_eq first (codes "end") → R.has_end ≡ false
     → (content : Content)
     → content ≡ cond board (BoardLine words) (cond key (KeyLine words) (cond fill (FillLine words) (cond phase (PhaseLine words) (cond turns (TurnsLine words) (cond end (EndLine words) (cond hart (hart_content first words) Unknown))))))
-    → has_wrong_count content ≡ false → (after R content).has_end ≡ true → is_end (first ∷ words) ≡ true
+    → has_wrong_count content ≡ false → (reading_after R content).has_end ≡ true → is_end (first ∷ words) ≡ true
 ends_by_form R first words true key fill phase turns end hart same going content is count ended = absurd (clash R.has_end (rw is at ended) going)
 ends_by_form R first words false true fill phase turns end hart same going content is count ended = absurd (clash R.has_end (rw is at ended) going)
 ends_by_form R first words false false true phase turns end hart same going content is count ended = absurd (clash R.has_end (rw is at ended) going)
@@ -51,7 +51,7 @@ words_that_end R S (first ∷ words) e going ended = said (is_remark first) e
         ends_by_form R first words (bytes_eq first (codes "board")) (bytes_eq first (codes "key")) (bytes_eq first (codes "fill")) (bytes_eq first (codes "phase")) (bytes_eq first (codes "turns")) (bytes_eq first (codes "end")) (is_hart_word first) refl going
         (content_of first words) refl a.count (ap (λ (T : Reading). T.has_end) a.is ∙ ended)
 
--- a line after which the script has ended
+-- a line reading_after which the script has ended
 line_that_ends : (R S : Reading) (line : List ℕ) → line_read R line ≡ Ok S → R.has_end ≡ false → S.has_end ≡ true → is_end_line line ≡ true
 unfolding line_read
 line_that_ends R S line e going ended = said (is_ascii line) e
@@ -97,7 +97,7 @@ no_script_without_end R number (line ∷ lines) script going none e =
           | inr goes ↦ goes_on S goes f
         ]
 
--- a fault of lines up to the line `end` is the fault of the lines that go on after it
+-- a fault of lines up to the line `end` is the fault of the lines that go on reading_after it
 same_fault : (R : Reading) (number : ℕ) (before more : List (List ℕ)) (last : List ℕ) (fault : ScriptFault) → is_end_line last ≡ true → lines_read R number (before ++ last ∷ []) ≡ Err fault → lines_read R number ((before ++ last ∷ []) ++ more) ≡ Err fault
 same_fault R number [] more last fault is e = read (line_read R last) refl e
   where
@@ -113,7 +113,7 @@ same_fault R number (line ∷ before) more last fault is e =
     read (Err kind) goes_on f = f
     read (Ok S) goes_on f = goes_on S f
 
--- the lines up to the first line `end`, whatever comes after it
+-- the lines up to the first line `end`, whatever comes reading_after it
 front_lines-append : (before more : List (List ℕ)) (last : List ℕ) → list_all (λ line. not (is_end_line line)) before ≡ true → is_end_line last ≡ true → front_lines ((before ++ last ∷ []) ++ more) ≡ before ++ last ∷ []
 front_lines-append [] more last none is = rw is refl
 front_lines-append (line ∷ before) more last none is =
@@ -169,7 +169,7 @@ lines_from-append piece (byte ∷ before) rest =
 abbrev IsCut : (front rest : List ℕ) → Type 0
 IsCut front rest = (rest ≡ []) ⊎ ((before : List ℕ) × (front ≡ before ++ 10 ∷ []))
 
--- a piece and the bytes after it have a front
+-- a piece and the bytes reading_after it have a front
 record HasFront (piece bytes : List ℕ) : Type 0 where
   front : List ℕ
   rest : List ℕ
@@ -311,7 +311,7 @@ is_front limit text script place e = at (nat_lt limit (length text)) refl e
               }
         ]
 
--- a place after a line cuts the text
+-- a place reading_after a line cuts the text
 record IsPlace (text : List ℕ) (place : ℕ) : Type 0 where
   cut : IsCut (take place text) (drop place text)
   size : length (take place text) ≡ place

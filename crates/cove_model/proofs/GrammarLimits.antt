@@ -13,7 +13,7 @@ use Rattle.cove_base.specs.declared.scripts.Line.{Line}
 use Rattle.cove_base.specs.declared.scripts.ScriptLine.{ScriptLine}
 use Rattle.cove_base.specs.Text.{text_words}
 use Rattle.cove_base.specs.Scripts.{is_within_limits, is_fill, is_script_line, is_line_within, phases_rise_from}
-use Rattle.cove_model.specs.Grammar.{Word, Reading, is_ascii, is_remark, value, is_hex, line_of, Content, BoardLine, KeyLine, FillLine, PhaseLine, TurnsLine, EndLine, HartAlone, HartLine, Unknown, content_of, is_header, is_bad_header, is_unknown, has_bad_number, has_wrong_count, is_out_of_board, script_lines, after, judged, words_read, line_read, opening_reading}
+use Rattle.cove_model.specs.Grammar.{Word, Reading, is_ascii, is_remark, value, is_hex, line_of, Content, BoardLine, KeyLine, FillLine, PhaseLine, TurnsLine, EndLine, HartAlone, HartLine, Unknown, content_of, is_header, is_bad_header, is_unknown, has_bad_number, has_wrong_count, is_out_of_board, script_lines, reading_after, judged, words_read, line_read, opening_reading}
 
 -- ---- what a reading keeps
 
@@ -62,7 +62,7 @@ pub record IsAccepted (R : Reading) (content : Content) (S : Reading) : Type 0 w
   pub numbers : has_bad_number content ≡ false
   pub count : has_wrong_count content ≡ false
   pub within : is_out_of_board R content ≡ false
-  pub is : after R content ≡ S
+  pub is : reading_after R content ≡ S
 
 passed : {A : Type 0} (b : Bool) (k : Kind) (r : Result A Kind) (x : A) → cond b (Err k) r ≡ Ok x → (b ≡ false) × (r ≡ Ok x)
 passed true k r x e = absurd cc
@@ -79,18 +79,18 @@ accepted R content S e =
     let c = passed (has_bad_number content) BadNumber _ S b.1 in
     let d = passed (has_wrong_count content) WrongCount _ S c.1 in
     let f = passed (is_out_of_board R content) OutOfBoard _ S d.1 in
-    record { header = a.0; known = b.0; numbers = c.0; count = d.0; within = f.0; is = ok_is (after R content) S (Ok (after R content)) (Ok S) refl refl f.1 }
+    record { header = a.0; known = b.0; numbers = c.0; count = d.0; within = f.0; is = ok_is (reading_after R content) S (Ok (reading_after R content)) (Ok S) refl refl f.1 }
 
 -- a reading that kept the limits keeps them, and its phase is the next one at most
 pub record Keeps (R S : Reading) : Type 0 where
   pub sound : IsSound S
   pub phase : S.phase ≤ R.phase + 1
 
--- a line that is not the board's comes after the board's
+-- a line that is not the board's comes reading_after the board's
 board_is_first : (R : Reading) (content : Content) (P : Type 0) → is_header content ≡ false → is_bad_header R content ≡ false → R.has_board ≡ false → P
 board_is_first R content P other header none = absurd (let h : true ≡ false = rw (none, other) at header in cc)
 
-keeps_board : (R : Reading) (words : List Word) → IsSound R → IsAccepted R (BoardLine words) (after R (BoardLine words)) → Keeps R (after R (BoardLine words))
+keeps_board : (R : Reading) (words : List Word) → IsSound R → IsAccepted R (BoardLine words) (reading_after R (BoardLine words)) → Keeps R (reading_after R (BoardLine words))
 keeps_board R [] s a = absurd (let e = a.within in cc)
 keeps_board R (x ∷ []) s a = absurd (let e = a.within in cc)
 keeps_board R (x ∷ y ∷ []) s a = absurd (let e = a.within in cc)
@@ -105,7 +105,7 @@ keeps_board R (x ∷ y ∷ z ∷ more) s a =
       phase = omega arith;
     }
 
-keeps_key : (R : Reading) (words : List Word) → IsSound R → IsAccepted R (KeyLine words) (after R (KeyLine words)) → Keeps R (after R (KeyLine words))
+keeps_key : (R : Reading) (words : List Word) → IsSound R → IsAccepted R (KeyLine words) (reading_after R (KeyLine words)) → Keeps R (reading_after R (KeyLine words))
 keeps_key R [] s a = absurd (let e = a.within in cc)
 keeps_key R (hex ∷ more) s a = record {
   sound = record {
@@ -116,7 +116,7 @@ keeps_key R (hex ∷ more) s a = record {
   phase = omega arith;
 }
 
-keeps_fill : (R : Reading) (words : List Word) → IsSound R → IsAccepted R (FillLine words) (after R (FillLine words)) → Keeps R (after R (FillLine words))
+keeps_fill : (R : Reading) (words : List Word) → IsSound R → IsAccepted R (FillLine words) (reading_after R (FillLine words)) → Keeps R (reading_after R (FillLine words))
 keeps_fill R [] s a = absurd (let e = a.within in cc)
 keeps_fill R (addr ∷ []) s a = absurd (let e = a.within in cc)
 keeps_fill R (addr ∷ hex ∷ more) s a =
@@ -130,7 +130,7 @@ keeps_fill R (addr ∷ hex ∷ more) s a =
       phase = omega arith;
     }
 
-keeps_phase : (R : Reading) (words : List Word) → IsSound R → Keeps R (after R (PhaseLine words))
+keeps_phase : (R : Reading) (words : List Word) → IsSound R → Keeps R (reading_after R (PhaseLine words))
 keeps_phase R words s = record {
   sound = record {
     tests = s.tests;
@@ -140,7 +140,7 @@ keeps_phase R words s = record {
   phase = omega arith;
 }
 
-keeps_turns : (R : Reading) (words : List Word) → IsSound R → IsAccepted R (TurnsLine words) (after R (TurnsLine words)) → Keeps R (after R (TurnsLine words))
+keeps_turns : (R : Reading) (words : List Word) → IsSound R → IsAccepted R (TurnsLine words) (reading_after R (TurnsLine words)) → Keeps R (reading_after R (TurnsLine words))
 keeps_turns R words s a = record {
   sound = record {
     tests = record { turns = all_push (λ hart. nat_lt hart R.script.harts) R.script.turns (map value words) s.tests.turns (not-false _ a.within); board = s.tests.board; some_key = s.tests.some_key; few_key = s.tests.few_key; fills = s.tests.fills; lines = s.tests.lines; phases = s.tests.phases };
@@ -164,7 +164,7 @@ past_with : (R : Reading) (hart : ℕ) (found : Option Line) → IsSound R → l
 past_with R hart None s = rw (append-nil R.script.lines) s.past
 past_with R hart (Some line) s = all_push (is_of_phase R.phase) R.script.lines _ s.past (and_from _ _ (le-leb R.phase R.phase (omega arith)) refl)
 
-keeps_hart : (R : Reading) (hart word : Word) (words : List Word) → IsSound R → R.phase < 2 ^ 20 → IsAccepted R (HartLine hart word words) (after R (HartLine hart word words)) → Keeps R (after R (HartLine hart word words))
+keeps_hart : (R : Reading) (hart word : Word) (words : List Word) → IsSound R → R.phase < 2 ^ 20 → IsAccepted R (HartLine hart word words) (reading_after R (HartLine hart word words)) → Keeps R (reading_after R (HartLine hart word words))
 keeps_hart R hart word words s small a =
     let found : Option Line = line_of word (map value words) in
     record {
@@ -184,7 +184,7 @@ keeps_hart R hart word words s small a =
       phase = omega arith;
     }
 
-keeps_after : (R : Reading) (content : Content) → IsSound R → R.phase < 2 ^ 20 → IsAccepted R content (after R content) → Keeps R (after R content)
+keeps_after : (R : Reading) (content : Content) → IsSound R → R.phase < 2 ^ 20 → IsAccepted R content (reading_after R content) → Keeps R (reading_after R content)
 keeps_after R (BoardLine words) s small a = keeps_board R words s a
 keeps_after R (KeyLine words) s small a = keeps_key R words s a
 keeps_after R (FillLine words) s small a = keeps_fill R words s a
@@ -198,7 +198,7 @@ keeps_after R Unknown s small a = record { sound = s; phase = omega arith }
 judged_keeps : (R : Reading) (content : Content) (S : Reading) → judged R content ≡ Ok S → IsSound R → R.phase < 2 ^ 20 → Keeps R S
 judged_keeps R content S e s small =
     let a = accepted R content S e in
-    let b : IsAccepted R content (after R content) = record { header = a.header; known = a.known; numbers = a.numbers; count = a.count; within = a.within; is = refl } in
+    let b : IsAccepted R content (reading_after R content) = record { header = a.header; known = a.known; numbers = a.numbers; count = a.count; within = a.within; is = refl } in
     let P : Reading → Type 0 = λ T. Keeps R T in
     subst P a.is (keeps_after R content s small b)
 

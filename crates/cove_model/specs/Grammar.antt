@@ -59,24 +59,24 @@ is_hart_word word = nat_le 48 (slice_index word 0) && nat_le (slice_index word 0
 unfoldable pub is_line_word : Word → Bool
 is_line_word word = bytes_eq word (codes "ld") || bytes_eq word (codes "sd") || is_call_word word
 
-abbrev pub load_of : List ℕ → Option Line
-load_of (addr ∷ []) = Some (Load addr)
-load_of _ = None
+abbrev pub load_line : List ℕ → Option Line
+load_line (addr ∷ []) = Some (Load addr)
+load_line _ = None
 
-abbrev pub store_of : List ℕ → Option Line
-store_of (addr ∷ value ∷ []) = Some (Store addr value)
-store_of _ = None
+abbrev pub store_line : List ℕ → Option Line
+store_line (addr ∷ value ∷ []) = Some (Store addr value)
+store_line _ = None
 
 -- the line of a hart that a word and its arguments make; None for another word, or another number of arguments
 unfoldable pub line_of : Word → (arguments : List ℕ) → Option Line
 line_of word arguments =
-    if bytes_eq word (codes "ld") then load_of arguments
-    else (if bytes_eq word (codes "sd") then store_of arguments
+    if bytes_eq word (codes "ld") then load_line arguments
+    else (if bytes_eq word (codes "sd") then store_line arguments
     else option_map Call (call_of word arguments))
 
 -- ---- the forms of a line
 
--- a line that says something, by its form, with the words after its fixed words
+-- a line that says something, by its form, with the words reading_after its fixed words
 pub data Content : Type 0 where
   BoardLine : (words : List Word) → Content
   KeyLine : (words : List Word) → Content
@@ -230,25 +230,25 @@ abbrev pub script_lines : (hart phase : ℕ) → Option Line → List ScriptLine
 script_lines hart phase None = []
 script_lines hart phase (Some line) = record { hart = record { 0 = hart }; phase = phase; line = line } ∷ []
 
--- what has been said after a line; the body begins with the first line of it, or with the line `end`
-abbrev pub after : Reading → Content → Reading
-after R (BoardLine words) = let sizes : List ℕ = map value words in
+-- what has been said reading_after a line; the body begins with the first line of it, or with the line `end`
+abbrev pub reading_after : Reading → Content → Reading
+reading_after R (BoardLine words) = let sizes : List ℕ = map value words in
     record R { has_board = true; script = record R.script { pages = slice_index sizes 0; harts = slice_index sizes 1; files = slice_index sizes 2 } }
-after R (KeyLine words) = record R { has_key = true; script = record R.script { key = key_of words } }
-after R (FillLine words) = record R { script = record R.script { fills = R.script.fills ++ fill_of words } }
-after R (PhaseLine words) = record R { has_body = true; phase = R.phase + 1 }
-after R (TurnsLine words) = record R { has_body = true; script = record R.script { turns = R.script.turns ++ map value words } }
-after R (EndLine words) = record R { has_body = true; has_end = true }
-after R (HartAlone hart) = R
-after R (HartLine hart word words) = record R {
+reading_after R (KeyLine words) = record R { has_key = true; script = record R.script { key = key_of words } }
+reading_after R (FillLine words) = record R { script = record R.script { fills = R.script.fills ++ fill_of words } }
+reading_after R (PhaseLine words) = record R { has_body = true; phase = R.phase + 1 }
+reading_after R (TurnsLine words) = record R { has_body = true; script = record R.script { turns = R.script.turns ++ map value words } }
+reading_after R (EndLine words) = record R { has_body = true; has_end = true }
+reading_after R (HartAlone hart) = R
+reading_after R (HartLine hart word words) = record R {
   has_body = true;
   script = record R.script { lines = R.script.lines ++ script_lines (value hart) R.phase (line_of word (map value words)) };
 }
-after R Unknown = R
+reading_after R Unknown = R
 
 -- ---- a line, and the lines of a text
 
--- what has been read after a line that says something, or the first kind of fault that applies
+-- what has been read reading_after a line that says something, or the first kind of fault that applies
 unfoldable pub judged : Reading → Content → Result Reading Kind
 judged R content =
     if is_bad_header R content then Err BadHeader
@@ -256,7 +256,7 @@ judged R content =
     else (if has_bad_number content then Err BadNumber
     else (if has_wrong_count content then Err WrongCount
     else (if is_out_of_board R content then Err OutOfBoard
-    else Ok (after R content)))))
+    else Ok (reading_after R content)))))
 
 -- a line without words, and one whose first word begins with `#`, are passed over
 unfoldable pub words_read : Reading → List Word → Result Reading Kind
@@ -274,7 +274,7 @@ abbrev pub then_read : {X : Type 0} → (number : ℕ) → Result Reading Kind �
 then_read number (Ok R) goes_on = goes_on R
 then_read number (Err kind) goes_on = Err (fault_at number kind)
 
--- the lines from a number on, to the last; NoEnd is at the line after it
+-- the lines from a number on, to the last; NoEnd is at the line reading_after it
 abbrev pub lines_read : Reading → (number : ℕ) → List (List ℕ) → Result ScriptValue ScriptFault
 lines_read R number [] = if R.has_end then Ok R.script else Err (fault_at number NoEnd)
 lines_read R number (line ∷ lines) = then_read number (line_read R line) (λ S. lines_read S (number + 1) lines)

@@ -5,11 +5,11 @@ use Rattle.cove_owner.specs.declared.states.PageState.{PageState}
 use Rattle.cove_owner.specs.declared.states.PageState.TheVariants.{Host, Converting, Given, Released}
 
 -- the page word of a state
-abbrev pub word_of : PageState → ℕ
-word_of (Host maps) = host maps
-word_of (Converting since) = converting since
-word_of (Given tvm role) = given tvm.0 role
-word_of Released = released
+abbrev pub state_word : PageState → ℕ
+state_word (Host maps) = host maps
+state_word (Converting since) = converting since
+state_word (Given tvm role) = given tvm.0 role
+state_word Released = released
 
 -- the numbers of a state are within their limits
 abbrev pub IsWithin : PageState → Type 0
@@ -28,8 +28,8 @@ SomePage P words first n = (page : ℕ) × (first ≤ page) × (page < first + n
 
 -- a word is the word of one state at most
 abbrev pub WordsTellStates : Type 0
-WordsTellStates = (s t : PageState) → word_of s ≡ word_of t → s ≡ t
+WordsTellStates = (s t : PageState) → state_word s ≡ state_word t → s ≡ t
 
 -- the words of states within the limits are the page words
 abbrev pub StatesHaveWords : Type 0
-StatesHaveWords = (s : PageState) → IsWithin s → IsPageWord (word_of s)
+StatesHaveWords = (s : PageState) → IsWithin s → IsPageWord (state_word s)

@@ -3,7 +3,7 @@ ghost use Rattle.cove_base.specs.PageWords.{IsPageWord, IsHostWord, IsMappedWord
 ghost use Rattle.cove_base.specs.Places.{page_word};
 ghost use Rattle.cove_base.specs.Stores.{stored, AllAllowed, fills};
 ghost use Rattle.cove_base.specs.Unchanged.{Unchanged};
-ghost use Rattle.cove_owner.specs.States.{word_of, IsWithin, EveryPage, SomePage};
+ghost use Rattle.cove_owner.specs.States.{state_word, IsWithin, EveryPage, SomePage};
 
 use crate::states::{PageState, decode, encode};
 use cove_base::{Page, PageRange, Words, page_word};
@@ -13,7 +13,7 @@ pub fn state<W: Words>(w: &mut W, page: Page) -> PageState
     requires place { page.0 < length (W.words w.old) }
     requires limit { page.0 < 2 ^ 16 }
     requires word { IsPageWord (slice_index (W.words w.old) page.0) }
-    ensures state { word_of result ≡ slice_index (W.words w.old) page.0 }
+    ensures state { state_word result ≡ slice_index (W.words w.old) page.0 }
     ensures within { IsWithin result }
     ensures unchanged { Unchanged W.words W.clean W.guard w.old w.new }
 {
@@ -26,8 +26,8 @@ pub fn set_state<W: Words>(w: &mut W, page: Page, s: PageState)
     requires limit { page.0 < 2 ^ 16 }
     requires within { IsWithin s }
     requires allowed { AllAllowed (W.allows (W.guard w.old)) (W.words w.old)
-        ((page_word page.0, word_of s) ∷ []) }
-    ensures words { W.words w.new ≡ stored (W.words w.old) ((page_word page.0, word_of s) ∷ []) }
+        ((page_word page.0, state_word s) ∷ []) }
+    ensures words { W.words w.new ≡ stored (W.words w.old) ((page_word page.0, state_word s) ∷ []) }
     ensures guard { W.guard w.new ≡ W.guard w.old }
 {
     w.set(page_word(page), encode(s));
@@ -39,9 +39,9 @@ pub fn set_all<W: Words>(w: &mut W, range: PageRange, s: PageState)
     requires limit { range.first.0 + range.count ≤ 2 ^ 16 }
     requires within { IsWithin s }
     requires allowed { AllAllowed (W.allows (W.guard w.old)) (W.words w.old)
-        (fills (page_word range.first.0) range.count (word_of s)) }
+        (fills (page_word range.first.0) range.count (state_word s)) }
     ensures words { W.words w.new
-        ≡ stored (W.words w.old) (fills (page_word range.first.0) range.count (word_of s)) }
+        ≡ stored (W.words w.old) (fills (page_word range.first.0) range.count (state_word s)) }
     ensures clean { range.count ≡ 0 → W.clean w.new ≡ W.clean w.old }
     ensures guard { W.guard w.new ≡ W.guard w.old }
 {
@@ -102,19 +102,19 @@ pub fn all_free<W: Words>(w: &mut W, range: PageRange, floor: u64) -> bool
 }
 
 fn is_host(s: PageState) -> bool
-    ensures { IsTrue result ↔ IsHostWord (word_of s) }
+    ensures { IsTrue result ↔ IsHostWord (state_word s) }
 {
     matches!(s, PageState::Host { .. })
 }
 
 fn is_mapped(s: PageState) -> bool
-    ensures { IsTrue result ↔ IsMappedWord (word_of s) }
+    ensures { IsTrue result ↔ IsMappedWord (state_word s) }
 {
     matches!(s, PageState::Host { maps } if maps > 0)
 }
 
 fn is_free(s: PageState, floor: u64) -> bool
-    ensures { IsTrue result ↔ IsFreeWord floor (word_of s) }
+    ensures { IsTrue result ↔ IsFreeWord floor (state_word s) }
 {
     match s {
         PageState::Converting { since } => since < floor,

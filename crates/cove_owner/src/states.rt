@@ -1,6 +1,6 @@
 ghost use Rattle.std.specs.Prelude.{◌≡◌, ◌<◌};
 ghost use Rattle.cove_base.specs.PageWords.{role_number, IsPageWord};
-ghost use Rattle.cove_owner.specs.States.{word_of, IsWithin, WordsTellStates, StatesHaveWords};
+ghost use Rattle.cove_owner.specs.States.{state_word, IsWithin, WordsTellStates, StatesHaveWords};
 
 use cove_base::{Role, TvmId};
 
@@ -20,7 +20,7 @@ pub enum PageState {
 /// The page word of a state.
 pub fn encode(state: PageState) -> u64
     requires { IsWithin state }
-    ensures { result ≡ word_of state }
+    ensures { result ≡ state_word state }
 {
     match state {
         PageState::Host { maps } => 8 * maps as u64,
@@ -33,7 +33,7 @@ pub fn encode(state: PageState) -> u64
 /// The state of which this is the page word.
 pub fn decode(word: u64) -> PageState
     requires { IsPageWord word }
-    ensures word { word_of result ≡ word }
+    ensures word { state_word result ≡ word }
     ensures within { IsWithin result }
 {
     match word % 8 {

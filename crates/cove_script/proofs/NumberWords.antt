@@ -1,22 +1,13 @@
 -- What is written of a number, or of bytes, is a word that is read back.
-use Rattle.std.proofs.Common.{◌≡◌, ℕ, suc, ◌^◌, ◌<◌, ◌≤◌, true, nat_le, nat_lt, List, [], ◌∷◌, length, map, slice_index, Option, Some, is_some, unwrap_or, refl, ap, ◌∙◌, arith}
+use Rattle.std.proofs.Common.{◌≡◌, ℕ, ◌^◌, ◌<◌, true, nat_le, nat_lt, List, [], ◌∷◌, length, map, slice_index, Option, Some, is_some, unwrap_or, refl, ap, ◌∙◌}
 use Rattle.std.specs.List.{list_all}
-use Rattle.std.specs.Char.{digit_char, is_digit}
-use Rattle.std.proofs.lemmas.Bool.{and_parts, and_from, leb-true, le-leb, ltb-true}
-use Rattle.std.proofs.lemmas.Bool.Decides.{nat_tests}
-use Rattle.std.proofs.lemmas.List.{length-map}
-use Rattle.cove_base.proofs.ScriptLimits.{all_weaker}
-use Rattle.cove_base.specs.Numbers.{number_of, number_text, natural_text, hex_text, shortest_digits}
-use Rattle.cove_text.proofs.Numerals.{length-shortest_digits, list_all-shortest_digits, number_of-number_text, number_of-natural_text}
-use Rattle.cove_text.proofs.HexDigits.{hex_of-hex_text, length-hex_text, list_all-hex_text}
+use Rattle.std.proofs.lemmas.Bool.{and_parts, and_from, leb-true, ltb-true}
+use Rattle.cove_base.specs.Numbers.{number_of, number_text, natural_text, hex_text}
+use Rattle.cove_text.proofs.JoinedWords.{is_word-hex_text, is_word-natural_text, is_word-number_text}
+use Rattle.cove_text.proofs.Numerals.{number_of-number_text, number_of-natural_text}
+use Rattle.cove_text.proofs.HexDigits.{hex_of-hex_text}
 use Rattle.cove_model.specs.Grammar.{Word, is_number, value, bytes_of, is_hex, are_numbers}
-use Rattle.cove_base.proofs.JoinedWords.{is_word, is_word_byte}
-
-digit_is_word_byte : (base d : ℕ) → base ≤ 16 → is_digit d base ≡ true → is_word_byte d ≡ true
-digit_is_word_byte base d small e = grind (arith, nat_tests)
-
-digits_are_words : (base : ℕ) (digits : List ℕ) → base ≤ 16 → list_all (λ digit. is_digit digit base) digits ≡ true → list_all is_word_byte digits ≡ true
-digits_are_words base digits small e = all_weaker (λ digit. is_digit digit base) is_word_byte (λ d is. digit_is_word_byte base d small is) digits e
+use Rattle.cove_base.proofs.JoinedWords.{is_word}
 
 -- ---- one number
 
@@ -35,19 +26,10 @@ writes word n printed e = record {
 }
 
 pub number_text_writes : (n : ℕ) → n < 2 ^ 64 → Writes (number_text n) n
-number_text_writes n small =
-    let digits : List ℕ = map digit_char (shortest_digits 16 n) in
-    let printed : is_word (number_text n) ≡ true =
-    and_from _ _ (le-leb 1 (suc (suc (length digits))) (omega arith)) (digits_are_words 16 digits (omega arith) (list_all-shortest_digits 16 n (omega arith) (omega arith))) in
-    writes (number_text n) n printed (number_of-number_text n small)
+number_text_writes n small = writes (number_text n) n (is_word-number_text n) (number_of-number_text n small)
 
 pub natural_text_writes : (n : ℕ) → n < 2 ^ 64 → Writes (natural_text n) n
-natural_text_writes n small =
-    let digits : List ℕ = map digit_char (shortest_digits 10 n) in
-    let some = length-shortest_digits 10 n (omega arith) in
-    let printed : is_word (natural_text n) ≡ true =
-    and_from _ _ (le-leb 1 (length digits) (omega (arith, length-map (shortest_digits 10 n) digit_char))) (digits_are_words 10 digits (omega arith) (list_all-shortest_digits 10 n (omega arith) (omega arith))) in
-    writes (natural_text n) n printed (number_of-natural_text n small)
+natural_text_writes n small = writes (natural_text n) n (is_word-natural_text n) (number_of-natural_text n small)
 
 -- ---- several numbers
 
@@ -81,9 +63,8 @@ pub hex_text_writes : (bytes : List ℕ) → nat_le 1 (length bytes) ≡ true �
 unfolding bytes_of
 hex_text_writes bytes some fit =
     let meaning : bytes_of (hex_text bytes) ≡ bytes = ap (λ (o : Option (List ℕ)). unwrap_or o []) (hex_of-hex_text bytes fit) in
-    let some_digits : 1 ≤ length (hex_text bytes) = omega (arith, length-hex_text bytes, leb-true 1 (length bytes) some) in
     record {
-      printed = and_from _ _ (le-leb 1 (length (hex_text bytes)) some_digits) (digits_are_words 16 (hex_text bytes) (omega arith) (list_all-hex_text bytes fit));
+      printed = is_word-hex_text bytes (leb-true 1 (length bytes) some) fit;
       hex = ap (λ (bs : List ℕ). nat_le 1 (length bs)) meaning ∙ some;
       meaning = meaning;
     }

@@ -10,8 +10,8 @@ use Rattle.cove_script.specs.declared.faults.ParseError.{ParseError}
 use Rattle.cove_script.specs.declared.faults.ParseError.TheVariants as errors
 
 -- words, by their bytes
-abbrev pub words_of : List (Bor (List ℕ)) → List (List ℕ)
-words_of words = map (λ word. word.now) words
+abbrev pub plain_words : List (Bor (List ℕ)) → List (List ℕ)
+plain_words words = map (λ word. word.now) words
 
 -- a line was read as the grammar judges it, unless memory ran out
 abbrev pub Judged : {X : Type 0} → Result X LineFault → (new : Reading) → Result Reading Kind → Type 0

@@ -3,7 +3,7 @@ ghost use Rattle.std.specs.List.{list_all};
 ghost use Rattle.cove_base.specs.Scripts.{is_line_within};
 ghost use Rattle.cove_model.specs.Grammar.{judged};
 ghost use Rattle.cove_model.specs.Grammar.{BoardLine, KeyLine, FillLine, PhaseLine, TurnsLine, EndLine, HartAlone, HartLine};
-ghost use Rattle.cove_script.specs.Judging.{Judged, words_of};
+ghost use Rattle.cove_script.specs.Judging.{Judged, plain_words};
 
 use crate::faults::LineFault;
 use crate::readings::Reading;
@@ -21,7 +21,7 @@ pub fn read_board(
     words: &[&[u8]],
     numbers: &mut Vec<u64>,
 ) -> Result<(), LineFault>
-    ensures { Judged result reading.new (judged reading.old (BoardLine (words_of words.now))) }
+    ensures { Judged result reading.new (judged reading.old (BoardLine (plain_words words.now))) }
 {
     if reading.has_board {
         return Err(LineFault::Refused(Kind::UnknownWord));
@@ -57,7 +57,7 @@ pub fn read_key(
     numbers: &mut Vec<u64>,
 ) -> Result<(), LineFault>
     requires { IsTrue reading.old.has_board }
-    ensures { Judged result reading.new (judged reading.old (KeyLine (words_of words.now))) }
+    ensures { Judged result reading.new (judged reading.old (KeyLine (plain_words words.now))) }
 {
     if reading.has_body || reading.has_key {
         return Err(LineFault::Refused(Kind::UnknownWord));
@@ -104,7 +104,7 @@ fn read_filled(
     requires board { IsTrue reading.old.has_board }
     requires setup { reading.old.has_body ≡ false }
     requires pages { reading.old.script.pages < 2 ^ 20 }
-    ensures { Judged result reading.new (judged reading.old (FillLine (addr.now ∷ hex.now ∷ words_of more.now))) }
+    ensures { Judged result reading.new (judged reading.old (FillLine (addr.now ∷ hex.now ∷ plain_words more.now))) }
 {
     let Some(addr) = number_in(addr) else {
         return Err(LineFault::Refused(Kind::BadNumber));
@@ -135,7 +135,7 @@ pub fn read_fill(
 ) -> Result<(), LineFault>
     requires board { IsTrue reading.old.has_board }
     requires pages { reading.old.script.pages < 2 ^ 20 }
-    ensures { Judged result reading.new (judged reading.old (FillLine (words_of words.now))) }
+    ensures { Judged result reading.new (judged reading.old (FillLine (plain_words words.now))) }
 {
     if reading.has_body {
         return Err(LineFault::Refused(Kind::UnknownWord));
@@ -159,7 +159,7 @@ pub fn read_phase(
 ) -> Result<(), LineFault>
     requires board { IsTrue reading.old.has_board }
     requires phase { reading.old.phase < 2 ^ 20 }
-    ensures { Judged result reading.new (judged reading.old (PhaseLine (words_of words.now))) }
+    ensures { Judged result reading.new (judged reading.old (PhaseLine (plain_words words.now))) }
 {
     if reading.has_end {
         return Err(LineFault::Refused(Kind::UnknownWord));
@@ -202,7 +202,7 @@ pub fn read_turns(
     numbers: &mut Vec<u64>,
 ) -> Result<(), LineFault>
     requires { IsTrue reading.old.has_board }
-    ensures { Judged result reading.new (judged reading.old (TurnsLine (words_of words.now))) }
+    ensures { Judged result reading.new (judged reading.old (TurnsLine (plain_words words.now))) }
 {
     if reading.has_end {
         return Err(LineFault::Refused(Kind::UnknownWord));
@@ -229,7 +229,7 @@ pub fn read_end(
     numbers: &mut Vec<u64>,
 ) -> Result<(), LineFault>
     requires { IsTrue reading.old.has_board }
-    ensures { Judged result reading.new (judged reading.old (EndLine (words_of words.now))) }
+    ensures { Judged result reading.new (judged reading.old (EndLine (plain_words words.now))) }
 {
     if reading.has_end {
         return Err(LineFault::Refused(Kind::UnknownWord));
@@ -284,7 +284,7 @@ pub fn read_hart_line(
 ) -> Result<(), LineFault>
     requires board { IsTrue reading.old.has_board }
     requires pages { reading.old.script.pages < 2 ^ 20 }
-    ensures { Judged result reading.new (judged reading.old (HartLine hart.now word.now (words_of words.now))) }
+    ensures { Judged result reading.new (judged reading.old (HartLine hart.now word.now (plain_words words.now))) }
 {
     if reading.has_end {
         return Err(LineFault::Refused(Kind::UnknownWord));

@@ -1,6 +1,6 @@
 ghost use Rattle.std.specs.Prelude.{◌<◌, ◌≡◌, ◌^◌, IsTrue};
 ghost use Rattle.cove_model.specs.Grammar.{content_of, is_ascii, is_hart_word, is_remark, judged, line_read, words_read, Unknown};
-ghost use Rattle.cove_script.specs.Judging.{Judged, words_of};
+ghost use Rattle.cove_script.specs.Judging.{Judged, plain_words};
 
 use crate::faults::LineFault;
 use crate::forms::{
@@ -53,7 +53,7 @@ fn read_content(
 ) -> Result<(), LineFault>
     requires pages { reading.old.script.pages < 2 ^ 20 }
     requires phase { reading.old.phase < 2 ^ 20 }
-    ensures { Judged result reading.new (judged reading.old (content_of first.now (words_of words.now))) }
+    ensures { Judged result reading.new (judged reading.old (content_of first.now (plain_words words.now))) }
 {
     if first == b"board".as_slice() {
         return read_board(reading, words, numbers);
@@ -95,7 +95,7 @@ fn read_words(
 ) -> Result<(), LineFault>
     requires pages { reading.old.script.pages < 2 ^ 20 }
     requires phase { reading.old.phase < 2 ^ 20 }
-    ensures { Judged result reading.new (words_read reading.old (words_of words.now)) }
+    ensures { Judged result reading.new (words_read reading.old (plain_words words.now)) }
 {
     match words {
         [] => Ok(()),

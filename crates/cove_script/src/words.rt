@@ -2,7 +2,7 @@ ghost use Rattle.std.specs.Prelude.{◌≡◌, map, length, is_some, unwrap_or, 
 ghost use Rattle.std.specs.List.{list_all};
 ghost use Rattle.cove_model.specs.Grammar.{is_number, value, is_hex, bytes_of, is_line_word, line_of as line_meaning};
 ghost use Rattle.cove_base.specs.Text.{text_words};
-ghost use Rattle.cove_script.specs.Judging.{words_of};
+ghost use Rattle.cove_script.specs.Judging.{plain_words};
 
 use cove_base::{Bytes, Line, NoMemory};
 use cove_text::{HexError, call_of, is_call_word, read_hex, read_number, split_words};
@@ -10,7 +10,7 @@ use std::alloc::{AllocError, Global};
 
 /// Puts the words of a line in place of what the list held.
 pub fn put_words<'a>(words: &mut Vec<&'a [u8]>, line: &'a [u8]) -> Result<(), AllocError>
-    ensures { OnOk result (words_of words.new.items ≡ text_words line.now) }
+    ensures { OnOk result (plain_words words.new.items ≡ text_words line.now) }
 {
     words.clear();
     for word in split_words(line) {
@@ -31,8 +31,8 @@ pub fn number_in(word: &[u8]) -> Option<u64>
 /// Puts the numbers that words are in place of what the list held, and answers whether all words are numbers.
 /// A word that is none counts as 0.
 pub fn put_numbers(numbers: &mut Vec<u64>, words: &[&[u8]]) -> Result<bool, AllocError>
-    ensures values { OnOk result (numbers.new.items ≡ map value (words_of words.now)) }
-    ensures all { IfOk result (λ all. all ≡ list_all is_number (words_of words.now)) }
+    ensures values { OnOk result (numbers.new.items ≡ map value (plain_words words.now)) }
+    ensures all { IfOk result (λ all. all ≡ list_all is_number (plain_words words.now)) }
 {
     numbers.clear();
     let mut all = true;

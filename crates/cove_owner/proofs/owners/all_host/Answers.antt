@@ -1,7 +1,7 @@
 use Rattle.std.proofs.Common.{◌≡◌, ◌+◌, arith, sym, ◌∙◌, ap, get_or, subst}
 use Rattle.std.proofs.lemmas.Bool.{false≢true, iff_false}
 use Rattle.cove_base.specs.PageWords.{IsHostWord}
-use Rattle.cove_owner.specs.States.{word_of}
+use Rattle.cove_owner.specs.States.{state_word}
 use Rattle.cove_owner.proofs.PageLemmas.{EveryPage-more}
 use Rattle.cove_owner.proofs.owners.all_host.Goals as goal
 
@@ -12,14 +12,14 @@ state-requires-clause-word g c =
 pub returns-then-not-is_host-clause-all : goal.returns-then-not-is_host-clause-all
 returns-then-not-is_host-clause-all g c =
     let page = c.args.range.first.0 + c.loop-i.i in
-    let here : word_of c.state.result ≡ get_or (g.W.Words.words c.args.w.now) page 0 =
+    let here : state_word c.state.result ≡ get_or (g.W.Words.words c.args.w.now) page 0 =
     c.state.ensures.state ∙ ap (λ words. get_or words page 0) c.loop-i.invariant.unchanged.words in
     (λ t. absurd (false≢true t), λ every. absurd (iff_false c.is_host.ensures c.if-not-is_host.true (subst IsHostWord (sym here) (every page (omega arith) (omega arith)))))
 
 pub loop-i-preserved : goal.loop-i-preserved
 loop-i-preserved g c =
     let page = c.args.range.first.0 + c.loop-i.i in
-    let here : word_of c.state.result ≡ get_or (g.W.Words.words c.args.w.now) page 0 =
+    let here : state_word c.state.result ≡ get_or (g.W.Words.words c.args.w.now) page 0 =
     c.state.ensures.state ∙ ap (λ words. get_or words page 0) c.loop-i.invariant.unchanged.words in
     record {
       unchanged = record {

@@ -1,14 +1,14 @@
 use Rattle.std.proofs.Common.{◌+◌, arith, sym, ◌∙◌, ap, subst, length, length-set}
 use Rattle.cove_base.specs.Stores.{stored, AllAllowed}
 use Rattle.cove_base.proofs.StoreLemmas.{fills-rest}
-use Rattle.cove_owner.specs.States.{word_of}
+use Rattle.cove_owner.specs.States.{state_word}
 use Rattle.cove_owner.proofs.owners.set_all.Goals as goal
 
 pub loop-i-preserved : goal.loop-i-preserved
 loop-i-preserved g c =
     let i = c.loop-i.i in
     let words = g.W.Words.words c.loop-i.w in
-    let word = word_of c.args.s in
+    let word = state_word c.args.s in
     let split = fills-rest c.args.range.first.0 i c.args.range.count word (omega arith) in
     let kept = c.set_state.ensures in
     let allowed = subst (λ ss. AllAllowed (g.W.Words.allows (g.W.Words.guard c.loop-i.w)) words ss) split c.loop-i.invariant.allowed in

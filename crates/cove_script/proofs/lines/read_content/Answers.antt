@@ -1,7 +1,7 @@
 use Rattle.std.proofs.Common.{◌≡◌, Bool, true, false, cond, List, [], ◌∷◌, codes, bytes_eq, Err, refl, sym, ap, ◌∙◌}
 use Rattle.cove_base.specs.declared.faults.Kind.TheVariants.{BadHeader}
 use Rattle.cove_model.specs.Grammar.{Reading, Word, Content, KeyLine, FillLine, PhaseLine, TurnsLine, EndLine, Unknown, content_of, hart_content, is_hart_word, is_header, judged}
-use Rattle.cove_script.specs.Judging.{words_of}
+use Rattle.cove_script.specs.Judging.{plain_words}
 use Rattle.cove_script.proofs.lines.read_content.Goals as goal
 
 -- behind the test for `board`, no form is the board's
@@ -29,4 +29,4 @@ pub returns-then-not-reading : goal.returns-then-not-reading
 returns-then-not-reading c =
     let none : c.args.reading.now.has_board ≡ false = ap (λ (R : Reading). R.has_board) (sym c.reading.view_is) ∙ c.if-not-reading.true in
     let other : bytes_eq c.args.first.now (codes "board") ≡ false = ap (λ (word : Word). bytes_eq c.args.first.now word) (sym c.as_slice.ensures) ∙ sym c.eq.ensures ∙ c.if-eq.false in
-    bad_header c.args.reading.now (content_of c.args.first.now (words_of c.args.words.now)) none (other_content c.args.first.now (words_of c.args.words.now) other)
+    bad_header c.args.reading.now (content_of c.args.first.now (plain_words c.args.words.now)) none (other_content c.args.first.now (plain_words c.args.words.now) other)
