@@ -1,5 +1,5 @@
 -- What one hart holds beside the shared words.
-use Rattle.std.specs.Prelude.{ℕ, ◌/◌, ◌==◌, Bool, false, List, Option, Some, None}
+use Rattle.std.specs.Prelude.{ℕ, ◌/◌, ◌==◌, Bool, false, List, [], Option, Some, None}
 use Rattle.cove_base.specs.declared.events.Walked.{Walked}
 use Rattle.cove_base.specs.declared.events.Walked.TheVariants.{Found, Missing}
 use Rattle.cove_base.specs.declared.numbers.Page.{Page}
@@ -10,14 +10,43 @@ use Rattle.cove_base.specs.declared.walks.Target.{Target}
 use Rattle.cove_base.specs.declared.walks.Target.TheVariants.{Host, Fetch, Access}
 use Rattle.cove_base.specs.Rings.{filled, found}
 
--- a hart outside TVMs: its number, how many of its lines it has ended and the place of the next one, its ring of
--- host pages, and a walk that it has not used yet
+-- the rings of a hart's TLB: host pages, and guest pages for fetches and for data, each page under the key that finds it
+pub record HartRings : Type 0 where
+  pub hosts : List (ℕ × Page)
+  pub fetches : List (ℕ × Page)
+  pub accesses : List (ℕ × Page)
+
+-- the vCPU that a hart runs, and what the hart keeps of it between two of its entries
+pub record Inside : Type 0 where
+  pub tvm : ℕ
+  pub cpu : ℕ
+  pub x : List ℕ
+  pub pc : ℕ
+  pub latched : Option ℕ
+  pub fuel : ℕ
+
+-- a hart: its number, how many of its lines it has ended and the place of the next one, its rings, a walk that it has
+-- not used yet, and where it is inside, if it is
 pub record HartValue : Type 0 where
   pub hart : ℕ
   pub ended : ℕ
   pub place : ℕ
-  pub hosts : List (ℕ × Page)
+  pub rings : HartRings
   pub walked : Option Noted
+  pub inside : Option Inside
+
+-- what the board's rule speaks of: the hart's number, its rings and the walk that it has not used yet
+pub record Holding : Type 0 where
+  pub hart : ℕ
+  pub rings : HartRings
+  pub walked : Option Noted
+
+abbrev pub holding : HartValue → Holding
+holding held = record { hart = held.hart; rings = held.rings; walked = held.walked }
+
+-- rings that name nothing
+abbrev pub no_rings : HartRings
+no_rings = record { hosts = []; fetches = []; accesses = [] }
 
 -- the page that a line reads or writes, if it is an access
 abbrev pub accessed_page : Line → Option ℕ
@@ -36,22 +65,26 @@ abbrev pub has_walked_to : Option Noted → (page : ℕ) → Bool
 has_walked_to None page = false
 has_walked_to (Some noted) page = is_host_page noted.target page
 
--- the page that the ring for a target finds; a hart outside TVMs has no ring for guest pages
-abbrev pub ring_finds : List (ℕ × Page) → Target → Option Page
-ring_finds hosts (Host p) = found p.0 hosts
-ring_finds hosts (Fetch g) = None
-ring_finds hosts (Access g) = None
+-- the page that the rings find for a target
+abbrev pub rings_find : HartRings → Target → Option Page
+rings_find rings (Host p) = found p.0 rings.hosts
+rings_find rings (Fetch g) = found g.0 rings.fetches
+rings_find rings (Access g) = found g.0 rings.accesses
 
--- the ring of host pages after a walk to a target
-abbrev pub hosts_after : List (ℕ × Page) → Target → Walked → List (ℕ × Page)
-hosts_after hosts (Host p) (Found page) = filled hosts p.0 page
-hosts_after hosts (Host p) (Missing word) = hosts
-hosts_after hosts (Fetch g) walked = hosts
-hosts_after hosts (Access g) walked = hosts
+-- the rings after a page came in for a target
+abbrev pub rings_with : HartRings → Target → Page → HartRings
+rings_with rings (Host p) page = record rings { hosts = filled rings.hosts p.0 page }
+rings_with rings (Fetch g) page = record rings { fetches = filled rings.fetches g.0 page }
+rings_with rings (Access g) page = record rings { accesses = filled rings.accesses g.0 page }
+
+-- the rings after a walk to a target
+abbrev pub rings_after : HartRings → Target → Walked → HartRings
+rings_after rings target (Found page) = rings_with rings target page
+rings_after rings target (Missing word) = rings
 
 -- a hart after a walk, which it keeps until it uses it
 abbrev pub after_walk : HartValue → Target → Walked → HartValue
 after_walk hart target walked = record hart {
-  hosts = hosts_after hart.hosts target walked;
+  rings = rings_after hart.rings target walked;
   walked = Some (record { target = target; walked = walked });
 }

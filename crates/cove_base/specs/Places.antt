@@ -23,15 +23,15 @@ tvm_word pages harts tvm = 513 * pages + 1 + harts + tvm
 
 -- the word of a hart, which says where it is
 abbrev pub hart_word : (pages harts hart : ℕ) → ℕ
-hart_word pages harts hart = 513 * pages + 18 + harts + hart
+hart_word pages harts hart = 513 * pages + 2 + TVM_LIMIT + harts + hart
 
 -- the count of entries
 abbrev pub count_word : (pages harts : ℕ) → ℕ
-count_word pages harts = 513 * pages + 18 + 2 * harts
+count_word pages harts = 513 * pages + 2 + TVM_LIMIT + 2 * harts
 
 -- how many words there are
 abbrev pub all_words : (pages harts : ℕ) → ℕ
-all_words pages harts = 513 * pages + 19 + 2 * harts
+all_words pages harts = 513 * pages + 3 + TVM_LIMIT + 2 * harts
 
 -- the words that are used, by what they are for
 pub data Place : Type 0 where

@@ -56,7 +56,7 @@ pub fn hart_word(pages: u32, harts: u8, hart: HartId) -> u32
     requires hart { hart.0 < HART_LIMIT }
     ensures { result ≡ hart_word pages harts hart.0 }
 {
-    513 * pages + 18 + harts as u32 + hart.0 as u32
+    513 * pages + 2 + TVM_LIMIT + harts as u32 + hart.0 as u32
 }
 
 /// The place of the count of entries.
@@ -65,7 +65,7 @@ pub fn count_word(pages: u32, harts: u8) -> u32
     requires harts { harts ≤ HART_LIMIT }
     ensures { result ≡ count_word pages harts }
 {
-    513 * pages + 18 + 2 * harts as u32
+    513 * pages + 2 + TVM_LIMIT + 2 * harts as u32
 }
 
 /// The number of shared words of a board.
@@ -74,7 +74,7 @@ pub fn all_words(pages: u32, harts: u8) -> u32
     requires harts { harts ≤ HART_LIMIT }
     ensures { result ≡ all_words pages harts }
 {
-    513 * pages + 19 + 2 * harts as u32
+    513 * pages + 3 + TVM_LIMIT + 2 * harts as u32
 }
 
 /// The law of the places, which runs no code.

@@ -1,24 +1,27 @@
 -- What refused and accepted calls leave.
-use Rattle.std.proofs.Common.{◌≡◌, ℕ, ◌+◌, ◌≤◌, List, [], get_or, Option, Some, None, unwrap_or, refl, sym, ap, subst, ◌∙◌, arith}
+use Rattle.std.proofs.Common.{◌≡◌, ℕ, ◌+◌, ◌≤◌, List, [], ◌∷◌, not, false, get_or, Option, Some, None, unwrap_or, refl, sym, ap, subst, ◌∙◌, arith}
 use Rattle.cove_base.proofs.StoreLemmas.{length-stored, AllAllowed-weaker}
 use Rattle.cove_base.specs.Guards.{Guard}
 use Rattle.cove_base.specs.Places.{count_word}
 use Rattle.cove_base.specs.Stores.{stored, AllAllowed}
 use Rattle.cove_base.specs.declared.calls.HostCall.{HostCall}
 use Rattle.cove_base.specs.declared.statuses.Reply.{Reply}
-use Rattle.cove_base.specs.declared.statuses.Status.TheVariants.{Success}
-use Rattle.cove_core.specs.Called.{Called, no_tables}
-use Rattle.cove_core.specs.Replies.{accepted}
-use Rattle.cove_model.specs.Effects.{state_by, effect, value_of, refusal}
-use Rattle.cove_model.specs.LawfulStores.{IsLawful, AllowsLawful}
+use Rattle.cove_base.specs.declared.statuses.Status.TheVariants.{NotSupported, Success}
+use Rattle.cove_core.specs.Called.{Called}
+use Rattle.cove_core.specs.Replies.{accepted, refused_with}
+use Rattle.cove_model.specs.Answers.{is_built, state_by, effect, value_of, refusal}
+use Rattle.cove_model.specs.HostCalls.{rule}
+use Rattle.cove_model.specs.Refusals.{first_failing, plain}
+use Rattle.cove_model.specs.LawfulStores.{IsLawful, AllowsLawful, no_tables}
+use Rattle.cove_model.specs.Sound.{IsSound}
 use Rattle.cove_model.specs.States.{State}
 use Rattle.cove_model.specs.WordLaws.{Stand}
-use Rattle.cove_model.specs.WordsStand.{FramesStand, epoch_in}
+use Rattle.cove_model.specs.WordsStand.{FramesStand, epoch_in, number_in}
 
 -- a call that every state refuses alike changes nothing
 pub refuses : (pages harts hart : ℕ) (call : HostCall) (words : List ℕ) (frames : List (List ℕ)) (reply : Reply) → ((S : State) → Stand pages harts words S → refusal S hart call ≡ Some reply) → Called pages harts hart call words words frames frames reply
 refuses pages harts hart call words frames reply each = record {
-  serves = λ S stand memory.
+  serves = λ S sound stand memory.
       let is = each S stand in
       let success : ℕ → Reply = λ v. record { status = Success; value = v } in
       let kept : state_by (refusal S hart call) S (effect S hart call) ≡ S = ap (λ (r : Option Reply). state_by r S (effect S hart call)) is in (
@@ -28,10 +31,19 @@ refuses pages harts hart call words frames reply each = record {
       );
   lawful = ([], tt, refl);
   refused = λ e. (refl, refl);
-  epoch = omega arith;
+  fences = λ most within. record {
+    epoch = let epoch = within.epoch in omega arith;
+    numbers = λ t low high. let number : number_in pages harts words t ≤ most = within.numbers t low high in omega arith;
+  };
   count = refl;
   size = refl;
 }
+
+-- so is a call that is not built
+pub unbuilt_refused : (pages harts hart : ℕ) (call : HostCall) (words : List ℕ) (frames : List (List ℕ)) → is_built call ≡ false → Called pages harts hart call words words frames frames (refused_with NotSupported)
+unbuilt_refused pages harts hart call words frames unbuilt =
+    refuses pages harts hart call words frames (refused_with NotSupported) (λ S stand.
+    ap (λ b. first_failing (plain (not b) NotSupported ∷ (rule S hart call).checks)) unbuilt)
 
 -- what a state must give for an accepted call
 pub record Accepts (pages harts hart : ℕ) (call : HostCall) (new : List ℕ) (now : List (List ℕ)) (S : State) : Type 0 where
@@ -41,11 +53,11 @@ pub record Accepts (pages harts hart : ℕ) (call : HostCall) (new : List ℕ) (
   pub memory : FramesStand now (effect S hart call)
 
 -- a call that every state accepts makes its stores
-pub accepts : (pages harts hart : ℕ) (call : HostCall) (words new : List ℕ) (frames now : List (List ℕ)) (ss : List (ℕ × ℕ)) → new ≡ stored words ss → AllAllowed (IsLawful pages harts no_tables hart words) words ss → epoch_in pages (stored words ss) ≤ epoch_in pages words + 1 → get_or (stored words ss) (count_word pages harts) 0 ≡ get_or words (count_word pages harts) 0 → ((S : State) → Stand pages harts words S → FramesStand frames S → Accepts pages harts hart call (stored words ss) now S) → Called pages harts hart call words new frames now accepted
-accepts pages harts hart call words new frames now ss is lawful epoch count each =
+pub accepts : (pages harts hart : ℕ) (call : HostCall) (words new : List ℕ) (frames now : List (List ℕ)) (ss : List (ℕ × ℕ)) → new ≡ stored words ss → AllAllowed (IsLawful pages harts no_tables hart words) words ss → epoch_in pages (stored words ss) ≤ epoch_in pages words + 1 → ((t : ℕ) → number_in pages harts (stored words ss) t ≡ number_in pages harts words t) → get_or (stored words ss) (count_word pages harts) 0 ≡ get_or words (count_word pages harts) 0 → ((S : State) → IsSound S → Stand pages harts words S → FramesStand frames S → Accepts pages harts hart call (stored words ss) now S) → Called pages harts hart call words new frames now accepted
+accepts pages harts hart call words new frames now ss is lawful epoch numbers count each =
     let made : Called pages harts hart call words (stored words ss) frames now accepted = record {
-      serves = λ S stand memory.
-          let right = each S stand memory in
+      serves = λ S sound stand memory.
+          let right = each S sound stand memory in
           let success : ℕ → Reply = λ v. record { status = Success; value = v } in
           let moved : state_by (refusal S hart call) S (effect S hart call) ≡ effect S hart call = ap (λ (r : Option Reply). state_by r S (effect S hart call)) right.none in (
             sym (ap (λ (r : Option Reply). unwrap_or r (success (value_of S hart call))) right.none ∙ ap success right.value),
@@ -54,7 +66,13 @@ accepts pages harts hart call words new frames now ss is lawful epoch count each
           );
       lawful = (ss, lawful, refl);
       refused = λ e. absurd cc;
-      epoch = epoch;
+      fences = λ most within. record {
+        epoch = let was = within.epoch in omega arith;
+        numbers = λ t low high.
+            let was : number_in pages harts words t ≤ most = within.numbers t low high in
+            let same : number_in pages harts (stored words ss) t ≡ number_in pages harts words t = numbers t in
+            omega arith;
+      };
       count = count;
       size = length-stored words ss;
     } in

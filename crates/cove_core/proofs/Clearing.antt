@@ -2,7 +2,7 @@
 use Rattle.std.proofs.Common.{◌≡◌, ◌≢◌, ◌<◌, ℕ, Bool, true, false, ◌||◌, List, [], ◌∷◌, ◌++◌, Option, None, Some, IsSome, refl, sym, subst, ap, ◌∙◌, ⊎_elim}
 use Rattle.std.proofs.lemmas.Bool.{false≢true}
 use Rattle.cove_base.proofs.ScriptLimits.{Limits}
-use Rattle.cove_base.specs.HartValues.{HartValue}
+use Rattle.cove_base.specs.HartValues.{HartRings, HartValue}
 use Rattle.cove_base.specs.Rings.{found}
 use Rattle.cove_base.specs.Scripts.{ScriptValue}
 use Rattle.cove_base.specs.declared.events.Entry.{Entry}
@@ -10,16 +10,17 @@ use Rattle.cove_base.specs.declared.numbers.Page.{Page}
 use Rattle.cove_core.specs.Made.{IsClear}
 use Rattle.cove_core.proofs.Performing.{ring_lacks}
 use Rattle.cove_model.proofs.AtTheEnd.{each_last, tlb_other}
-use Rattle.cove_model.proofs.Fitting.{ring_cases, walk_was_host}
+use Rattle.cove_model.proofs.Fitting.{host_at, ring_cases, walk_was_found}
 use Rattle.cove_model.proofs.Playing.{was_longer}
-use Rattle.cove_model.proofs.Quiet.{legal_quiet}
-use Rattle.cove_model.proofs.Usable.{held_since, use_holder}
+use Rattle.cove_model.proofs.Histories.{legal_quiet}
+use Rattle.cove_model.proofs.Holding.{held_since}
+use Rattle.cove_model.proofs.UsingPages.{use_holder}
 use Rattle.cove_model.specs.BoardRule.{HasFound}
-use Rattle.cove_model.specs.Cached.{IsQuietAt, WasHost}
-use Rattle.cove_model.specs.Fits.{Fits, ring_of}
+use Rattle.cove_model.specs.Cached.{IsQuietAt, WasFound}
+use Rattle.cove_model.specs.Fits.{Fits, rings_of}
 use Rattle.cove_model.specs.Histories.{Legal, after}
 use Rattle.cove_model.specs.Owners.{has, holder, page_at}
-use Rattle.cove_model.specs.Tlbs.{Tlb, tlb}
+use Rattle.cove_model.specs.Translations.{Tlb, tlb}
 
 first_false : (a b c : Bool) → (a || b || c) ≡ false → a ≡ false
 first_false true b c e = absurd (false≢true (sym e))
@@ -36,16 +37,16 @@ module _ (script : ScriptValue) (limits : Limits script) (H : List Entry) (e : E
       (each_last (IsQuietAt script) [] H e (legal_quiet script limits (H ++ e ∷ []) legal) p h moved)
 
   -- the ring of a hart without an unused walk
-  pub clear_own : (h : ℕ) (held : HartValue) → held.hosts ≡ ring_of (tlb script (H ++ e ∷ []) h).pages → held.walked ≡ None → IsClear script H e held
-  clear_own h held ring none = λ p moved.
-      (ap (found p) ring ∙ ring_lacks (tlb script (H ++ e ∷ []) h).pages p (unnamed p h moved), λ has. subst (λ noted. HasFound noted p) none has)
+  pub clear_own : (h : ℕ) (held : HartValue) → held.rings ≡ rings_of (tlb script (H ++ e ∷ []) h) → held.walked ≡ None → IsClear script H e held
+  clear_own h held rings none = λ p moved.
+      (ap (λ (r : HartRings). found p r.hosts) rings ∙ ring_lacks (tlb script (H ++ e ∷ []) h).pages p (unnamed p h moved), λ has. subst (λ noted. HasFound noted p) none has)
 
-  -- a page that was the host's since the last entry of another hart changed no hands
-  was_moved : (h p : ℕ) → h < script.harts → (e.hart.0 ≡ h → ⊥) → WasHost script H h p → holder (page_at (after script (H ++ e ∷ [])).pages p) ≢ holder (page_at (after script H).pages p) → ⊥
+  -- a page that was found since the last entry of another hart changed no hands
+  was_moved : (h p : ℕ) → h < script.harts → (e.hart.0 ≡ h → ⊥) → WasFound script H h (host_at p) → holder (page_at (after script (H ++ e ∷ [])).pages p) ≢ holder (page_at (after script H).pages p) → ⊥
   was_moved h p on ne was moved =
       moved (
-      use_holder h (page_at (after script (H ++ e ∷ [])).pages p) (held_since script (H ++ e ∷ []) h p on (was_longer script H e h p ne was))
-      ∙ sym (use_holder h (page_at (after script H).pages p) (held_since script H h p on was))
+      use_holder h (page_at (after script (H ++ e ∷ [])).pages p) (held_since script (H ++ e ∷ []) h (host_at p) on (was_longer script H e h (host_at p) ne was))
+      ∙ sym (use_holder h (page_at (after script H).pages p) (held_since script H h (host_at p) on was))
       )
 
   -- neither the ring of another hart names a page that changed hands, nor did an unused walk of it find one
@@ -53,9 +54,9 @@ module _ (script : ScriptValue) (limits : Limits script) (H : List Entry) (e : E
   clear_other other ne fits = λ p moved.
       let lacks : has p (tlb script H other.hart).pages ≡ false =
       ap (λ (t : Tlb). has p t.pages) (sym (tlb_other script H e other.hart ne)) ∙ unnamed p other.hart moved in
-      let unmoved : WasHost script H other.hart p → ⊥ = λ was. was_moved other.hart p fits.on_board ne was moved in (
-        not_some (found p other.hosts) (λ named.
+      let unmoved : WasFound script H other.hart (host_at p) → ⊥ = λ was. was_moved other.hart p fits.on_board ne was moved in (
+        not_some (found p other.rings.hosts) (λ named.
             ⊎_elim (λ there. false≢true (sym lacks ∙ there)) unmoved
-            (ring_cases script H other.hart p other.hosts other.walked fits.walk fits.ring named)),
-        λ has. unmoved (walk_was_host script H other.hart p other.walked fits.walk has),
+            (ring_cases script H other.hart p other.rings other.walked fits.walk fits.rings named)),
+        λ has. unmoved (walk_was_found script H other.hart p other.walked fits.walk has),
       )

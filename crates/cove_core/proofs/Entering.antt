@@ -1,34 +1,38 @@
 -- An entry that was made and counted leaves the history kept, and its hart fitting.
-use Rattle.std.proofs.Common.{◌≡◌, ℕ, ◌+◌, ◌<◌, ◌≤◌, ◌≢◌, List, [], ◌∷◌, ◌++◌, None, get_or, set, length, inl, inr, refl, sym, subst, ap, ◌∙◌, arith, get_or-set_other, get_or-set_same, length-set}
+use Rattle.std.proofs.Common.{◌≡◌, ℕ, ◌+◌, ◌<◌, ◌≤◌, ◌≢◌, List, [], ◌∷◌, ◌++◌, IsSome, is_some, Option, Some, None, get_or, set, length, inl, inr, refl, sym, subst, ap, ◌∙◌, arith, get_or-set_other, get_or-set_same, length-set}
 use Rattle.std.proofs.lemmas.Bool.{cases_eq}
 use Rattle.std.proofs.lemmas.List.{length_push}
 use Rattle.cove_base.specs.HartPlaces.{IsNextPlace}
 use Rattle.cove_base.specs.HartValues.{HartValue}
-use Rattle.cove_base.specs.Places.{count_word, epoch_word, all_words}
+use Rattle.cove_base.specs.Places.{count_word, epoch_word, tvm_word, all_words}
 use Rattle.cove_base.specs.Scripts.{ScriptValue}
 use Rattle.cove_base.specs.declared.events.Entry.{Entry}
 use Rattle.cove_base.specs.declared.events.Event.{Event}
 use Rattle.cove_core.specs.Kept.{IsKept, ProgressStands}
 use Rattle.cove_core.specs.Made.{IsPerformed}
 use Rattle.cove_core.specs.declared.monitors.Mon.{Mon}
-use Rattle.cove_model.proofs.AtTheEnd.{after_push, each_push, ended_other, ended_own, from_end, legal_push, tlb_same}
-use Rattle.cove_model.proofs.Beginning.{replicate_zero}
+use Rattle.cove_model.proofs.AtTheEnd.{after_push, each_push, ended_other, ended_own, from_end, legal_push}
+use Rattle.cove_model.proofs.Lists.{replicate_zero}
 use Rattle.cove_model.proofs.BesideProofs.{count_leaves_words}
-use Rattle.cove_model.proofs.Soundness.{board_of}
+use Rattle.cove_base.specs.HartLines.{next_line}
+use Rattle.cove_model.proofs.Beginning.{outside_due}
+use Rattle.cove_model.proofs.Boards.{board_of}
+use Rattle.cove_model.proofs.Fitting.{fits_entered}
+use Rattle.cove_model.proofs.Unbuilt.{empty_after, empty_done, outside_after}
 use Rattle.cove_model.specs.Cached.{IsReached}
-use Rattle.cove_model.specs.Fits.{Fits, UnusedFits, ring_of, walked_ring}
+use Rattle.cove_model.specs.Fits.{Fits, InsideFits, rings_of}
 use Rattle.cove_model.specs.Histories.{after}
 use Rattle.cove_model.specs.LawfulCounts.{IsCountable}
 use Rattle.cove_model.specs.Played.{entry_by}
-use Rattle.cove_model.specs.States.{State, ended_by}
-use Rattle.cove_model.specs.Steps.{after_event, done, end_line}
-use Rattle.cove_model.specs.Tlbs.{Tlb, renewed, tlb}
+use Rattle.cove_model.specs.States.{Seat, State, ended_by}
+use Rattle.cove_model.specs.Steps.{after_event, done, end_line, line_ended}
+use Rattle.cove_model.specs.Translations.{renewed, tlb}
 use Rattle.cove_model.specs.WordLaws.{Stand}
-use Rattle.cove_model.specs.WordsStand.{FramesStand, epoch_in}
+use Rattle.cove_model.specs.WordsStand.{FencesWithin, FramesStand}
 
 -- ---- an ended line is no matter of words and frames
 
-pub stand_ended : (pages harts h : ℕ) (words : List ℕ) (S : State) → Stand pages harts words S → Stand pages harts words (end_line h S)
+stand_ended : (pages harts h : ℕ) (words : List ℕ) (S : State) → Stand pages harts words S → Stand pages harts words (end_line h S)
 stand_ended pages harts h words S old = record {
   stands = record {
     size = old.stands.size;
@@ -40,13 +44,22 @@ stand_ended pages harts h words S old = record {
     };
     tables = old.stands.tables;
     unused = old.stands.unused;
-    outside = old.stands.outside;
+    seats = old.stands.seats;
   };
   within = old.within;
 }
 
-pub frames_ended : (frames : List (List ℕ)) (h : ℕ) (S : State) → FramesStand frames S → FramesStand frames (end_line h S)
+frames_ended : (frames : List (List ℕ)) (h : ℕ) (S : State) → FramesStand frames S → FramesStand frames (end_line h S)
 frames_ended frames h S old = record { count = old.count; frame = old.frame }
+
+-- so neither is whether it ended
+stand_line : (pages harts h : ℕ) (words : List ℕ) (o : Option Seat) (S : State) → Stand pages harts words S → Stand pages harts words (line_ended h o S)
+stand_line pages harts h words None S old = stand_ended pages harts h words S old
+stand_line pages harts h words (Some seat) S old = old
+
+frames_line : (frames : List (List ℕ)) (h : ℕ) (o : Option Seat) (S : State) → FramesStand frames S → FramesStand frames (line_ended h o S)
+frames_line frames h None S old = frames_ended frames h S old
+frames_line frames h (Some seat) S old = old
 
 -- ---- the state after an entry
 
@@ -57,7 +70,7 @@ module _ (script : ScriptValue) (H : List Entry) (h : ℕ) (event : Event) where
   pub ended_after_own : h < script.harts → ended_by (after script (H ++ entry_by h event ∷ [])) h ≡ ended_by (after script H) h + 1
   ended_after_own on =
       let size = (board_of script H).same_lists in
-      ap (λ (T : State). ended_by T h) after_own ∙ ended_own (after script H) h event (omega arith)
+      ap (λ (T : State). ended_by T h) after_own ∙ ended_own (after script H) h event (omega arith) ((empty_done (after script H) h (empty_after script H) event).outside h)
 
   pub ended_after_other : (k : ℕ) → k ≢ h → ended_by (after script (H ++ entry_by h event ∷ [])) k ≡ ended_by (after script H) k
   ended_after_other k ne = ap (λ (T : State). ended_by T k) after_own ∙ ended_other (after script H) h k event ne
@@ -78,19 +91,16 @@ module _ (script : ScriptValue) (H : List Entry) (h : ℕ) (event : Event) where
     ];
   }
 
-  -- a hart that ended its line, used its walk and has the ring of its translations fits
-  pub fits_own : (held : HartValue) → held.hart ≡ h → h < script.harts → held.ended ≡ ended_by (after script H) h + 1 → IsNextPlace script h held.ended held.place → held.walked ≡ None → held.hosts ≡ ring_of (renewed (after script H) (tlb script H h) event).pages → Fits script (H ++ entry_by h event ∷ []) held
-  fits_own held same on ended place none ring =
-      let H' = H ++ entry_by h event ∷ [] in
-      let translations : tlb script H' held.hart ≡ renewed (after script H) (tlb script H h) event =
-      ap (tlb script H') same ∙ tlb_same script H (entry_by h event) h refl in
-      record {
-        on_board = subst (λ k. k < script.harts) (sym same) on;
-        counts = ended ∙ sym (ended_after_own on) ∙ ap (ended_by (after script H')) (sym same);
-        stands = subst (λ k. IsNextPlace script k held.ended held.place) (sym same) place;
-        ring = ring ∙ ap (λ (t : Tlb). ring_of t.pages) (sym translations) ∙ ap (walked_ring (ring_of (tlb script H' held.hart).pages)) (sym none);
-        walk = subst (UnusedFits script H' held.hart) (sym none) tt;
-      }
+  -- a hart that ended its line, used its walk and has the rings of its translations fits
+  pub fits_own : (held : HartValue) → held.hart ≡ h → h < script.harts → held.ended ≡ ended_by (after script H) h + 1 → IsNextPlace script h held.ended held.place → held.walked ≡ None → held.inside ≡ None → held.rings ≡ rings_of (renewed (after script H) h (tlb script H h) event) → Fits script (H ++ entry_by h event ∷ []) held
+  fits_own held same on ended place none outside rings =
+      fits_entered script H (entry_by h event) held (sym same)
+      (subst (λ k. k < script.harts) (sym same) on)
+      (ended ∙ sym (ended_after_own on) ∙ ap (ended_by (after script (H ++ entry_by h event ∷ []))) (sym same))
+      (subst (λ k. IsNextPlace script k held.ended held.place) (sym same) place)
+      (rings ∙ ap (λ k. rings_of (renewed (after script H) k (tlb script H k) event)) (sym same))
+      none
+      (subst (InsideFits (after script (H ++ entry_by h event ∷ [])) held.hart) (sym outside) (outside_after script (H ++ entry_by h event ∷ []) held.hart))
 
 -- no hart has ended more lines than there are entries
 pub ended_within : (script : ScriptValue) (h : ℕ) → h < script.harts → (H : List Entry) → ended_by (after script H) h ≤ length H
@@ -103,7 +113,7 @@ ended_within script h on = from_end (λ H. ended_by (after script H) h ≤ lengt
           let own : ended_by (after script (H ++ e ∷ [])) h ≡ ended_by (after script H) h + 1 =
           ap (λ (T : State). ended_by T h) (after_push script H e)
           ∙ ap (λ k. ended_by (after_event (after script H) k e.event) h) (sym same)
-          ∙ ended_own (after script H) h e.event (omega arith) in
+          ∙ ended_own (after script H) h e.event (omega arith) ((empty_done (after script H) h (empty_after script H) e.event).outside h) in
           omega arith
       | inr ne ↦
           let own : ended_by (after script (H ++ e ∷ [])) h ≡ ended_by (after script H) h =
@@ -118,7 +128,7 @@ module _ (script : ScriptValue) (words : List ℕ) (mon : Mon) (held : HartValue
   stands_after : Stand script.pages script.harts words (after script (mon.history ++ entry_by held.hart event ∷ []))
   stands_after =
       subst (Stand script.pages script.harts words) (sym (after_own script mon.history held.hart event))
-      (stand_ended script.pages script.harts held.hart words (done (after script mon.history) held.hart event) performed.stands)
+      (stand_line script.pages script.harts held.hart words ((done (after script mon.history) held.hart event).seats held.hart) (done (after script mon.history) held.hart event) performed.stands)
 
   pub countable : IsCountable script mon.history held.hart words (entry_by held.hart event)
   countable = record {
@@ -127,7 +137,7 @@ module _ (script : ScriptValue) (words : List ℕ) (mon : Mon) (held : HartValue
     reached = performed.reached;
     stands = stands_after;
     count = performed.count;
-    epoch = performed.epoch;
+    fences = performed.fences;
   }
 
   pub kept_after : (place : ℕ) → IsNextPlace script held.hart (held.ended + 1) place
@@ -139,10 +149,7 @@ module _ (script : ScriptValue) (words : List ℕ) (mon : Mon) (held : HartValue
       let now : List ℕ = set words at count in
       let size : length words ≡ all_words script.pages script.harts = performed.stands.stands.size in
       let within : at < length words = omega arith in
-      let apart : epoch_word script.pages ≢ at = omega arith in
       let longer : length (mon.history ++ entry_by held.hart event ∷ []) ≡ length mon.history + 1 = length_push mon.history (entry_by held.hart event) in
-      let epoch : epoch_in script.pages now ≡ epoch_in script.pages words = get_or-set_other words at (epoch_word script.pages) count 0 apart in
-      let few = performed.epoch in
       record {
         board = performed.board;
         legal = legal_push script mon.history (entry_by held.hart event) performed.legal performed.allowed;
@@ -150,15 +157,28 @@ module _ (script : ScriptValue) (words : List ℕ) (mon : Mon) (held : HartValue
         stands = count_leaves_words script.pages script.harts words (after script (mon.history ++ entry_by held.hart event ∷ [])) count stands_after;
         frames =
             subst (FramesStand mon.ground.memory) (sym (after_own script mon.history held.hart event))
-            (frames_ended mon.ground.memory held.hart (done (after script mon.history) held.hart event) performed.frames);
+            (frames_line mon.ground.memory held.hart ((done (after script mon.history) held.hart event).seats held.hart) (done (after script mon.history) held.hart event) performed.frames);
         progress = progress_own script mon.history held.hart event mon.progress place performed.on_board (subst (λ n. IsNextPlace script held.hart (n + 1) place) performed.counts here) performed.progress;
         count = get_or-set_same words at count 0 within ∙ sym longer;
-        epoch = omega arith;
+        fences = subst (FencesWithin script.pages script.harts now) (sym longer) (record {
+          epoch =
+              let apart : epoch_word script.pages ≢ at = omega arith in
+              subst (λ n. n ≤ length mon.history + 1) (sym (get_or-set_other words at (epoch_word script.pages) count 0 apart)) performed.fences.epoch;
+          numbers = λ t low high.
+              let apart : tvm_word script.pages script.harts t ≢ at = omega arith in
+              subst (λ n. n ≤ length mon.history + 1) (sym (get_or-set_other words at (tvm_word script.pages script.harts t) count 0 apart)) (performed.fences.numbers t low high);
+        });
       }
 
-  pub fits_after : (left : HartValue) → left.hart ≡ held.hart → left.ended ≡ held.ended + 1 → IsNextPlace script held.hart left.ended left.place → left.walked ≡ None → left.hosts ≡ held.hosts → Fits script (mon.history ++ entry_by held.hart event ∷ []) left
-  fits_after left same ended place none ring =
-      fits_own script mon.history held.hart event left same performed.on_board (ended ∙ ap (λ n. n + 1) performed.counts) place none (ring ∙ performed.ring)
+  pub fits_after : (left : HartValue) → left.hart ≡ held.hart → left.ended ≡ held.ended + 1 → IsNextPlace script held.hart left.ended left.place → left.walked ≡ None → left.inside ≡ None → left.rings ≡ held.rings → Fits script (mon.history ++ entry_by held.hart event ∷ []) left
+  fits_after left same ended place none outside rings =
+      fits_own script mon.history held.hart event left same performed.on_board (ended ∙ ap (λ n. n + 1) performed.counts) place none outside (rings ∙ performed.rings)
+
+  -- a hart that made an event has a line left
+  pub has_line : IsSome (next_line script held.hart held.ended)
+  has_line =
+      let due = outside_due script (after script mon.history) held.hart event (outside_after script mon.history held.hart) performed.allowed in
+      ap (λ o. is_some o) (ap (next_line script held.hart) performed.counts ∙ due.found)
 
   -- it has not ended more lines than there are entries
   pub ended_few : held.ended ≤ length mon.history

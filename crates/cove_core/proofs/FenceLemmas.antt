@@ -2,21 +2,22 @@
 use Rattle.std.proofs.Common.{◌≡◌, ◌≢◌, ℕ, ◌+◌, ◌<◌, ◌≤◌, true, List, [], ◌∷◌, length, get_or, set, Some, refl, ap, subst, ◌∙◌, arith, get_or-set_same, get_or-set_other}
 use Rattle.std.specs.Prelude.{nat_lt}
 use Rattle.std.proofs.lemmas.Bool.{lt-ltb}
-use Rattle.cove_base.specs.Places.{epoch_word, answered_word, count_word, all_words}
+use Rattle.cove_base.specs.Places.{epoch_word, answered_word, tvm_word, count_word, all_words}
 use Rattle.cove_base.specs.Stores.{stored}
 use Rattle.cove_base.specs.declared.calls.HostCall.TheVariants.{GlobalFence, LocalFence}
 use Rattle.cove_base.specs.declared.statuses.Status.TheVariants.{AlreadyStarted}
 use Rattle.cove_core.proofs.CallLemmas.{accepts, refuses}
-use Rattle.cove_core.specs.Called.{Called, IsReady, no_tables}
+use Rattle.cove_core.specs.Called.{Called, IsReady}
 use Rattle.cove_core.specs.Replies.{accepted}
 use Rattle.cove_fence.specs.Fences.{FenceWords, IsBehind, HaveAnswered, answered, begin_stores, answer_stores}
 use Rattle.cove_model.proofs.FrameProofs.{global_fence_keeps_frames, local_fence_keeps_frames}
 use Rattle.cove_model.proofs.LawfulProofs.{global_fence_is_lawful, local_fence_is_lawful}
 use Rattle.cove_model.proofs.ToldProofs.{words_tell_answered, words_tell_lowest}
 use Rattle.cove_model.proofs.WordProofs.{global_fence_stands, local_fence_stands}
+use Rattle.cove_model.specs.LawfulStores.{no_tables}
 use Rattle.cove_model.specs.Refusals.{Check, first_failing}
 use Rattle.cove_model.specs.WordLaws.{AllAnswer, IsFloor, IsLowestBehind, global_fence_stores, local_fence_stores}
-use Rattle.cove_model.specs.WordsStand.{epoch_in}
+use Rattle.cove_model.specs.WordsStand.{epoch_in, number_in}
 
 -- the check that every hart has answered
 abbrev unanswered_check : List ℕ → Check
@@ -63,7 +64,12 @@ module _ (pages harts hart : ℕ) (words : List ℕ) (frames : List (List ℕ)) 
   answer_is : answer_stores places words hart ≡ local_fence_stores pages words hart
   answer_is = ap (λ p. answer_stores p words hart) places_are
 
-  -- an answer of the hart leaves the epoch and the count
+  -- an answer of the hart leaves the numbers of TVMs, the epoch and the count
+  answer_numbers : (ws : List ℕ) (number : ℕ) (t : ℕ) → number_in pages harts (set ws (answered_word pages hart) number) t ≡ number_in pages harts ws t
+  answer_numbers ws number t =
+      let apart : tvm_word pages harts t ≢ answered_word pages hart = omega (arith, on) in
+      get_or-set_other ws (answered_word pages hart) (tvm_word pages harts t) number 0 apart
+
   answer_beside : (ws : List ℕ) (number : ℕ) → (epoch_in pages (set ws (answered_word pages hart) number) ≡ epoch_in pages ws) × (get_or (set ws (answered_word pages hart) number) (count_word pages harts) 0 ≡ get_or ws (count_word pages harts) 0)
   answer_beside ws number =
       let apart : epoch_word pages ≢ answered_word pages hart = omega arith in
@@ -92,8 +98,11 @@ module _ (pages harts hart : ℕ) (words : List ℕ) (frames : List (List ℕ)) 
       (stores ∙ ap (stored words) begin_is)
       (global_fence_is_lawful pages harts no_tables words hart on in_words ready.room answers)
       (omega arith)
+      (λ t.
+      let apart : tvm_word pages harts t ≢ epoch_word pages = omega arith in
+      answer_numbers once next t ∙ get_or-set_other words (epoch_word pages) (tvm_word pages harts t) next 0 apart)
       (beside.1 ∙ get_or-set_other words (epoch_word pages) (count_word pages harts) next 0 count_apart)
-      (λ S stand memory. record {
+      (λ S sound stand memory. record {
         none = ap (λ xs. first_failing (unanswered_check xs ∷ [])) (words_tell_answered pages harts words S stand.stands.owners answers);
         value = refl;
         stands = global_fence_stands pages harts words S hart on answers stand;
@@ -108,8 +117,9 @@ module _ (pages harts hart : ℕ) (words : List ℕ) (frames : List (List ℕ)) 
       (stores ∙ ap (stored words) answer_is)
       (local_fence_is_lawful pages harts no_tables words hart on)
       (omega arith)
+      (answer_numbers words (epoch_in pages words))
       beside.1
-      (λ S stand memory. record {
+      (λ S sound stand memory. record {
         none = refl;
         value = refl;
         stands = local_fence_stands pages harts words S hart on stand;

@@ -230,5 +230,5 @@ filled_stands script frames count shows = record {
       ext_get_or 0 (get_or frames p []) (opening_words script.fills p) (size ∙ sym (opening_size script.fills p)) (λ i on.
       let small : i < 512 = omega (arith, size) in
       shows.word p i below small ∙ sym (opening_word script.fills p i small)) in
-      subst (FrameStands (get_or frames p [])) (sym (opening_page script p (omega (arith, count)))) same;
+      subst (FrameStands (opening script) (get_or frames p [])) (sym (opening_page script p (omega (arith, count)))) same;
 }

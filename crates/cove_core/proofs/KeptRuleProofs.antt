@@ -1,26 +1,33 @@
 -- A history that is kept follows the board's rule.
-use Rattle.std.proofs.Common.{◌≡◌, ◌+◌, [], ◌∷◌, ◌++◌, set, sym, ap, subst, ◌∙◌, arith}
+use Rattle.std.proofs.Common.{◌≡◌, ◌+◌, ◌≤◌, length, [], ◌∷◌, ◌++◌, set, sym, ap, subst, ◌∙◌, arith}
 use Rattle.cove_core.specs.KeptRule.{KeptHartsLive, KeptHartsUse, KeptIsBounded, KeptIsMonitored, StepsKeepLive}
 use Rattle.cove_base.specs.Places.{count_word}
-use Rattle.cove_core.specs.Called.{no_tables}
 use Rattle.cove_model.proofs.BoardRuleProofs.{counts_keep_rule, fitting_harts_live, fitting_harts_use, lists_keep_rule}
 use Rattle.cove_model.specs.BoardRule.{IsLive}
 use Rattle.cove_model.specs.LawfulCounts.{counted}
+use Rattle.cove_model.specs.LawfulStores.{no_tables}
+use Rattle.cove_model.specs.WordsStand.{number_in}
 
 pub kept_is_monitored : KeptIsMonitored
 kept_is_monitored script words mon kept = record {
   legal = kept.legal;
   cached = kept.cached;
   stands = kept.stands.stands;
-  fences = kept.epoch;
+  fences = kept.fences;
   count = kept.count;
   size = kept.stands.stands.size;
 }
 
 pub kept_is_bounded : KeptIsBounded
-kept_is_bounded script words mon kept room =
-    let fences = kept.epoch in
-    record { within = kept.stands.within; epoch = omega arith }
+kept_is_bounded script words mon kept room = record {
+  within = kept.stands.within;
+  fences = record {
+    epoch = let epoch = kept.fences.epoch in omega arith;
+    numbers = λ t low high.
+        let number : number_in script.pages script.harts words t ≤ length mon.history = kept.fences.numbers t low high in
+        omega arith;
+  };
+}
 
 pub kept_harts_live : KeptHartsLive
 kept_harts_live script words mon held within kept fits =

@@ -1,15 +1,16 @@
 -- At the opening the empty history is kept, and each hart of the board fits it.
 use Rattle.std.proofs.Common.{◌≡◌, ℕ, ◌<◌, List, [], None, get_or, length, replicate, refl, sym, subst, arith}
+use Rattle.cove_base.specs.HartValues.{no_rings}
 use Rattle.cove_base.specs.HartPlaces.{IsNextPlace}
-use Rattle.cove_base.specs.Places.{all_words, count_word, epoch_word}
+use Rattle.cove_base.specs.Places.{all_words, count_word, epoch_word, tvm_word}
 use Rattle.cove_base.specs.Scripts.{ScriptValue}
 use Rattle.cove_core.specs.Kept.{IsBoard, IsKept, ProgressStands}
 use Rattle.cove_core.specs.declared.ground.Ground.{Ground}
-use Rattle.cove_model.proofs.Beginning.{replicate_zero}
+use Rattle.cove_model.proofs.Lists.{replicate_zero}
 use Rattle.cove_model.proofs.OpeningStandsProofs.{opening_stands}
 use Rattle.cove_model.specs.Fits.{Fits}
 use Rattle.cove_model.specs.States.{ended_by, opening}
-use Rattle.cove_model.specs.WordsStand.{FramesStand, epoch_in}
+use Rattle.cove_model.specs.WordsStand.{FramesStand, epoch_in, number_in}
 
 -- no hart has ended a line
 none_ended : (script : ScriptValue) (h : ℕ) → ended_by (opening script) h ≡ 0
@@ -35,15 +36,21 @@ opening_kept script ground places board frames progress =
       frames = frames;
       progress = progress;
       count = replicate_zero n (count_word script.pages script.harts);
-      epoch = omega arith;
+      fences = record {
+        epoch = omega arith;
+        numbers = λ t low high.
+            let number : number_in script.pages script.harts (replicate n 0) t ≡ 0 = replicate_zero n (tvm_word script.pages script.harts t) in
+            omega arith;
+      };
     }
 
 -- a hart that has ended no line, found no page and made no walk fits
-pub opening_fits : (script : ScriptValue) (h place : ℕ) → h < script.harts → IsNextPlace script h 0 place → Fits script [] (record { hart = h; ended = 0; place = place; hosts = []; walked = None })
+pub opening_fits : (script : ScriptValue) (h place : ℕ) → h < script.harts → IsNextPlace script h 0 place → Fits script [] (record { hart = h; ended = 0; place = place; rings = no_rings; walked = None; inside = None })
 opening_fits script h place below here = record {
   on_board = below;
   counts = sym (none_ended script h);
   stands = here;
-  ring = refl;
+  rings = refl;
   walk = tt;
+  inside = refl;
 }

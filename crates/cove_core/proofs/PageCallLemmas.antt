@@ -1,9 +1,11 @@
 -- What convert and reclaim answer and leave, by the tests that were made of their pages.
-use Rattle.std.proofs.Common.{◌≡◌, ℕ, zero, suc, ◌+◌, ◌/◌, ◌<◌, ◌≤◌, Bool, true, false, not, List, [], ◌∷◌, length, get_or, Option, Ok, Err, refl, sym, ap, subst, ◌∙◌, inl, inr, arith}
+use Rattle.std.specs.List.{list_any}
+use Rattle.std.proofs.lemmas.Bool.{and_from, and_parts, false≢true, le-leb, leb-true, lt-ltb, ltb-true, or_cases, or_left, or_right}
+use Rattle.std.proofs.Common.{◌&&◌, ◌||◌, eqb, eqb-true, eq-eqb, nat_le, nat_lt, ◌≡◌, ℕ, zero, suc, ◌+◌, ◌/◌, ◌<◌, ◌≤◌, Bool, true, false, not, List, [], ◌∷◌, length, get_or, Option, Ok, Err, refl, sym, ap, subst, ◌∙◌, inl, inr, arith}
 use Rattle.cove_base.proofs.StoreLemmas.{get_or-fills_other}
 use Rattle.cove_base.specs.Guards.{Guard}
 use Rattle.cove_base.specs.PageWords.{host, converting, IsPageWord, IsHostWord, IsMappedWord, IsFreeWord}
-use Rattle.cove_base.specs.Places.{epoch_word, count_word}
+use Rattle.cove_base.specs.Places.{epoch_word, tvm_word, count_word}
 use Rattle.cove_base.specs.Ranges.{is_bad_count, is_unaligned, is_outside, range_at}
 use Rattle.cove_base.specs.Stores.{stored, fills, AllAllowed}
 use Rattle.cove_base.specs.declared.calls.HostCall.TheVariants.{Convert, Reclaim}
@@ -12,25 +14,48 @@ use Rattle.cove_base.specs.declared.ranges.RangeFault.{RangeFault}
 use Rattle.cove_base.specs.declared.statuses.Status.TheVariants.{InvalidParam, InvalidAddress, Denied}
 use Rattle.cove_core.proofs.CallLemmas.{accepts, refuses, lawful_allowed}
 use Rattle.cove_core.proofs.RangeLemmas.{named, RangeFound, range_found, checks_pass, fault_answers}
-use Rattle.cove_core.specs.Called.{Called, IsReady, no_tables}
+use Rattle.cove_core.specs.Called.{Called, IsReady}
 use Rattle.cove_core.specs.Replies.{accepted, refused_with, fault_status}
 use Rattle.cove_model.proofs.FrameProofs.{convert_keeps_frames, reclaim_zeroes_frames}
 use Rattle.cove_model.proofs.LawfulProofs.{convert_is_lawful, reclaim_is_lawful}
 use Rattle.cove_model.proofs.Runs.{every_at, every_from}
-use Rattle.cove_model.proofs.StandLemmas.{host_page}
-use Rattle.cove_model.proofs.ToldProofs.{words_tell_host, words_tell_free}
+use Rattle.cove_model.proofs.ToldProofs.{words_tell_host, words_tell_free, words_tell_shared}
 use Rattle.cove_model.proofs.WordProofs.{convert_stands, reclaim_stands}
-use Rattle.cove_model.specs.LawfulStores.{IsLawful, AllowsLawful}
-use Rattle.cove_model.specs.Owners.{is_host, is_free, every, page_at}
-use Rattle.cove_model.specs.Refusals.{Check, first_failing, plain, NoneShared}
-use Rattle.cove_model.specs.States.{State}
+use Rattle.cove_model.specs.LawfulStores.{IsLawful, AllowsLawful, no_tables}
+use Rattle.cove_model.specs.Owners.{has, is_host, is_free, every}
+use Rattle.cove_model.specs.Refusals.{Check, first_failing, plain}
+use Rattle.cove_model.specs.Checks.{NoneShared}
+use Rattle.cove_model.specs.States.{State, shared_pages}
 use Rattle.cove_model.specs.WordLaws.{Stand, IsFloor, convert_stores, reclaim_stores, zeroed}
-use Rattle.cove_model.specs.WordsStand.{OwnersStand, PageStands, FreeStands, epoch_in, answered_in, maps_of}
+use Rattle.cove_model.specs.WordsStand.{OwnersStand, FreeStands, epoch_in, answered_in}
 use Rattle.cove_owner.specs.States.{EveryPage, SomePage}
 
 is_false : (b : Bool) → (b ≡ true → ⊥) → b ≡ false
 is_false true no_way = absurd (no_way refl)
 is_false false no_way = refl
+
+is_true : (b : Bool) → (b ≡ false → ⊥) → b ≡ true
+is_true true no_way = refl
+is_true false no_way = absurd (no_way refl)
+
+-- a test that no number of a list passes, and one that one of them passes
+any_none : (test : ℕ → Bool) (xs : List ℕ) → ((p : ℕ) → has p xs ≡ true → test p ≡ false) → list_any test xs ≡ false
+any_none test [] never = refl
+any_none test (x ∷ xs) never =
+    ap (λ b. b || list_any test xs) (never x (or_left (eqb x x) (has x xs) (eq-eqb x x refl)))
+    ∙ any_none test xs (λ p there. never p (or_right (eqb x p) (has p xs) there))
+
+any_some : (test : ℕ → Bool) (xs : List ℕ) (p : ℕ) → has p xs ≡ true → test p ≡ true → list_any test xs ≡ true
+any_some test [] p there passes = absurd (false≢true there)
+any_some test (x ∷ xs) p there passes = elim (or_cases (eqb x p) (has p xs) there) [
+  | inl here ↦ or_left (test x) (list_any test xs) (ap test (eqb-true x p here) ∙ passes)
+  | inr later ↦ or_right (test x) (list_any test xs) (any_some test xs p later passes)
+]
+
+-- a word of the host's that is not mapped
+unmapped : (word : ℕ) → IsHostWord word → (IsMappedWord word → ⊥) → word ≡ host 0
+unmapped word (zero, is) fails = is
+unmapped word (suc m, is) fails = absurd (fails (suc m, omega arith, is))
 
 -- The words tell the tests of the definition.
 
@@ -49,19 +74,34 @@ module _ (pages harts : ℕ) (words : List ℕ) (S : State) (stand : Stand pages
       let within : p < length S.pages = omega (arith, owners.page_count) in
       (words_tell_host pages harts words S p (omega arith) owners).0 (every_at is_host first n S.pages all p low high within)))
 
-  -- no page is mapped shared: there is no TVM yet
-  pub none_mapped : EveryPage IsHostWord words first n → SomePage IsMappedWord words first n → ⊥
-  none_mapped each some =
+  -- a page of the run is one of those that are mapped shared
+  abbrev in_run : ℕ → Bool
+  in_run p = nat_le first p && nat_lt p (first + n)
+
+  pub none_shared_told : EveryPage IsHostWord words first n → (SomePage IsMappedWord words first n → ⊥) → list_any in_run (shared_pages S) ≡ false
+  none_shared_told each none =
+      any_none in_run (shared_pages S) (λ p there.
+      is_false (in_run p) (λ passes.
+      let parts = and_parts (nat_le first p) (nat_lt p (first + n)) passes in
+      let low : first ≤ p = leb-true first p parts.0 in
+      let high : p < first + n = ltb-true p (first + n) parts.1 in
+      let below : p < pages = omega arith in
+      let host' = (words_tell_host pages harts words S p below owners).1 (each p low high) in
+      let unmapped' = unmapped (get_or words p 0) (each p low high) (λ mapped. none (p, low, high, mapped)) in
+      false≢true (sym ((words_tell_shared pages harts words S p below owners host').1 unmapped') ∙ there)))
+
+  pub some_shared_told : EveryPage IsHostWord words first n → SomePage IsMappedWord words first n → list_any in_run (shared_pages S) ≡ true
+  some_shared_told each some =
       let p = some.0 in
       let below : p < pages = omega (arith, some.1, some.2) in
-      let was = host_page (page_at S.pages p) ((words_tell_host pages harts words S p below owners).1 (each p some.1 some.2)) in
-      let word : get_or words p 0 ≡ host (maps_of S p) =
-      subst (λ o. PageStands harts (epoch_in pages words) (answered_in pages words) (maps_of S p) (get_or words p 0) o) was.1 (owners.page p below) in
-      let none : maps_of S p ≡ 0 = refl in
+      let host' = (words_tell_host pages harts words S p below owners).1 (each p some.1 some.2) in
       let maps = some.3.0 in
       let mapped : get_or words p 0 ≡ host maps = some.3.2 in
       let positive : 0 < maps = some.3.1 in
-      absurd (omega (arith, word, none, mapped, positive))
+      let there : has p (shared_pages S) ≡ true = is_true (has p (shared_pages S)) (λ off.
+      let none : get_or words p 0 ≡ host 0 = (words_tell_shared pages harts words S p below owners host').0 off in
+      omega (arith, none, mapped, positive)) in
+      any_some in_run (shared_pages S) p there (and_from (nat_le first p) (nat_lt p (first + n)) (le-leb first p some.1) (lt-ltb p (first + n) some.2))
 
   module _ (floor : ℕ) (least : IsFloor pages harts words floor) where
     pub all_free_told : EveryPage (IsFreeWord floor) words first n → every is_free first n S.pages ≡ true
@@ -79,11 +119,6 @@ module _ (pages harts : ℕ) (words : List ℕ) (S : State) (stand : Stand pages
 behind_fills : (pages : ℕ) (words : List ℕ) (first n word place : ℕ) → first + n ≤ pages → pages ≤ place → get_or (stored words (fills first n word)) place 0 ≡ get_or words place 0
 behind_fills pages words first n word place inside past =
     let out : first + n ≤ place = omega arith in get_or-fills_other words first n word place (inr out)
-
--- a word of the host's that is not mapped
-unmapped : (word : ℕ) → IsHostWord word → (IsMappedWord word → ⊥) → word ≡ host 0
-unmapped word (zero, is) fails = is
-unmapped word (suc m, is) fails = absurd (fails (suc m, omega arith, is))
 
 -- a page word that is free by the floor is free by the answered numbers
 free_by_floor : (harts : ℕ) (numbers : ℕ → ℕ) (floor word : ℕ) → ((k : ℕ) → k < harts → floor ≤ numbers k) → IsFreeWord floor word → FreeStands harts numbers word
@@ -149,7 +184,10 @@ module _ (pages harts hart : ℕ) (words : List ℕ) (frames : List (List ℕ)) 
       pub convert_mapped : SomePage IsMappedWord words range.first.0 range.count → Called pages harts hart (Convert base n) words words frames frames (refused_with Denied)
       convert_mapped some =
           refuses pages harts hart (Convert base n) words frames (refused_with Denied) (λ S stand.
-          absurd (none_mapped pages harts words S stand (base / 4096) n found.fits (every_named IsHostWord each)
+          left S stand (every is_host (base / 4096) n S.pages) (NoneShared S base n ∷ [])
+          ∙ ap (λ passes. first_failing (plain (not passes) InvalidAddress ∷ NoneShared S base n ∷ [])) (all_host_told pages harts words S stand (base / 4096) n found.fits (every_named IsHostWord each))
+          ∙ ap (λ mapped. first_failing (plain mapped Denied ∷ []))
+          (some_shared_told pages harts words S stand (base / 4096) n found.fits (every_named IsHostWord each)
           (subst (λ (r : PageRange). SomePage IsMappedWord words r.first.0 r.count) found.is some)))
 
       module _ (none : SomePage IsMappedWord words range.first.0 range.count → ⊥) where
@@ -172,11 +210,16 @@ module _ (pages harts hart : ℕ) (words : List ℕ) (frames : List (List ℕ)) 
             (stores ∙ ap (stored words) (stores_named (converting since) ∙ ap (λ e. fills (base / 4096) n (converting e)) is))
             convert_lawful
             (omega arith)
+            (λ t. behind_fills pages words (base / 4096) n word (tvm_word pages harts t) found.fits (omega arith))
             (behind_fills pages words (base / 4096) n word (count_word pages harts) found.fits (omega arith))
-            (λ S stand memory.
+            (λ S sound stand memory.
             let all = all_host_told pages harts words S stand (base / 4096) n found.fits (every_named IsHostWord each) in
             record {
-              none = left S stand (every is_host (base / 4096) n S.pages) (NoneShared S base n ∷ []) ∙ ap (λ passes. first_failing (plain (not passes) InvalidAddress ∷ NoneShared S base n ∷ [])) all;
+              none = left S stand (every is_host (base / 4096) n S.pages) (NoneShared S base n ∷ [])
+                  ∙ ap (λ passes. first_failing (plain (not passes) InvalidAddress ∷ NoneShared S base n ∷ [])) all
+                  ∙ ap (λ mapped. first_failing (plain mapped Denied ∷ []))
+                  (none_shared_told pages harts words S stand (base / 4096) n found.fits (every_named IsHostWord each)
+                  (λ some. none (subst (λ (r : PageRange). SomePage IsMappedWord words r.first.0 r.count) (sym found.is) some)));
               value = refl;
               stands = convert_stands pages harts words S hart base n ready.some_hart found.fits all stand;
               memory = convert_keeps_frames frames S hart base n memory;
@@ -210,12 +253,13 @@ module _ (pages harts hart : ℕ) (words : List ℕ) (frames : List (List ℕ)) 
             (stores ∙ ap (stored words) (stores_named (host 0)))
             reclaim_lawful
             (omega arith)
+            (λ t. behind_fills pages words (base / 4096) n (host 0) (tvm_word pages harts t) found.fits (omega arith))
             (behind_fills pages words (base / 4096) n (host 0) (count_word pages harts) found.fits (omega arith))
-            (λ S stand memory.
+            (λ S sound stand memory.
             let all = all_free_told pages harts words S stand (base / 4096) n found.fits floor least (every_named (IsFreeWord floor) each) in
             record {
               none = left S stand (every is_free (base / 4096) n S.pages) [] ∙ ap (λ passes. first_failing (plain (not passes) InvalidAddress ∷ [])) all;
               value = refl;
-              stands = reclaim_stands pages harts words S hart base n found.fits all stand;
+              stands = reclaim_stands pages harts words S hart base n found.fits all sound stand;
               memory = reclaim_zeroes_frames frames S hart base n all memory;
             }))

@@ -11,7 +11,8 @@ use Rattle.cove_core.specs.declared.monitors.Mon.{Mon}
 use Rattle.cove_hart.specs.HartStates.{hart_value}
 use Rattle.cove_hart.specs.declared.states.HartState.{HartState}
 use Rattle.cove_model.proofs.Playing.{rounds_stay}
-use Rattle.cove_model.proofs.Progress.{harts_are_below, notes_le, rounds_size, turn_work, turns_size, turns_work, work}
+use Rattle.cove_model.proofs.Progress.{notes_le, rounds_size, turn_work, turns_size, turns_work, work}
+use Rattle.cove_model.proofs.Sums.{harts_are_below}
 use Rattle.cove_model.specs.Played.{Play, Unwalked, enough, played, round, rounds, turn, unplayed}
 use Rattle.cove_model.specs.States.{harts_below}
 

@@ -1,12 +1,13 @@
 -- What a hart does in its turn is the turn of each play that has its history and its note.
 use Rattle.std.proofs.Common.{◌≡◌, ℕ, ◌<◌, ◌≤◌, Bool, true, false, cond, ◌||◌, ◌⊎◌, nat_lt, is_some, IsTrue, IsSome, IfSome, IfNone, arith, List, [], ◌∷◌, ◌++◌, Option, None, Some, inl, inr, ◌↔◌, length, get_or, slice_get, refl, sym, subst, ap, ◌∙◌}
-use Rattle.std.proofs.lemmas.Bool.{cases_lt, false≢true, ltb-true}
+use Rattle.std.proofs.lemmas.Bool.{cases_lt, cond-false, cond-true, false≢true, lt-ltb, ltb-true}
+use Rattle.cove_base.specs.declared.walks.Target.{Target}
 use Rattle.std.proofs.lemmas.List.{length_push}
 use Rattle.std.proofs.lemmas.Option.{same_Some}
 use Rattle.cove_base.proofs.HartPlaceLemmas.{line_at_place}
 use Rattle.cove_base.proofs.ScriptLimits.{limits_of, line_page, Limits}
 use Rattle.cove_base.specs.HartLines.{next_line}
-use Rattle.cove_base.specs.HartValues.{HartValue, accessed_page, has_walked_to}
+use Rattle.cove_base.specs.HartValues.{HartRings, HartValue, accessed_page, has_walked_to}
 use Rattle.cove_base.specs.PageWords.{IsHostWord}
 use Rattle.cove_base.specs.Places.{page_word}
 use Rattle.cove_base.specs.Rings.{found}
@@ -26,8 +27,9 @@ use Rattle.cove_base.specs.declared.scripts.Line.TheVariants as lines
 use Rattle.cove_base.specs.declared.scripts.ScriptLine.{ScriptLine}
 use Rattle.cove_base.specs.declared.walks.Noted.{Noted}
 use Rattle.cove_base.specs.declared.walks.Target.TheVariants as targets
+use Rattle.cove_core.proofs.BoardLemmas.{kept_page_words}
 use Rattle.cove_core.proofs.Performing.{absent_now, not_true, reached_rightly, told_rightly, walk_is}
-use Rattle.cove_core.proofs.Walking.{sought, unwalked_now, wanted, wanted_below}
+use Rattle.cove_core.proofs.Walking.{sought as sought_walk, unwalked_now, wanted, wanted_below}
 use Rattle.cove_core.specs.Kept.{IsKept}
 use Rattle.cove_core.specs.Made.{IsMade, IsTold, IsWithinReach}
 use Rattle.cove_core.specs.Plays.{IsTurn, IsTurned, note_of}
@@ -38,31 +40,37 @@ use Rattle.cove_core.specs.declared.monitors.Mon.{Mon}
 use Rattle.cove_hart.specs.Needs.{access_need, line_need, next_need}
 use Rattle.cove_hart.specs.declared.needs.Need.TheVariants as needs
 use Rattle.cove_model.proofs.AtTheEnd.{each_last}
-use Rattle.cove_model.proofs.Beginning.{due, offered}
-use Rattle.cove_model.proofs.Playing.{noted_other, noted_same, turn_full, turn_open}
-use Rattle.cove_model.proofs.ToldProofs.{words_are_words, words_tell_host}
-use Rattle.cove_model.specs.Cached.{IsReached, Reaches}
+use Rattle.cove_model.proofs.Fitting.{host_at}
+use Rattle.cove_model.proofs.Offering.{aim_of_page, due, offered, offered_behind, sought_outside}
+use Rattle.cove_model.proofs.Unbuilt.{empty_after, offer_outside, touched_outside}
+use Rattle.cove_model.proofs.Playing.{noted_other, noted_same, turn_full}
+use Rattle.cove_model.proofs.ToldProofs.{words_tell_host}
+use Rattle.cove_model.specs.Cached.{IsReached, Reaches, ReachesWhere}
 use Rattle.cove_model.specs.Fits.{Fits}
 use Rattle.cove_model.specs.Histories.{EachEntry, Legal, after}
-use Rattle.cove_model.specs.Offers.{Next, first_behind, offer, offer_of, unless_behind}
+use Rattle.cove_model.specs.Offers.{Behind, Nothing, Offer, Touch, first_behind, host_target, line_offer, offer, outside_offer, sought, target_of}
 use Rattle.cove_model.specs.Owners.{has, is_host, page_at}
-use Rattle.cove_model.specs.Played.{Choice, Faults, Found, Missing, Note, Play, Succeeds, Unwalked, access_turn, choice, choice_at, entered, entry_by, line_turn, noted, offer_turn, turn, walked}
+use Rattle.cove_model.specs.Played.{Found, Missing, Note, Play, Unwalked, ended_event, ending, entered, entry_by, entry_turn, noted, sought_turn, turn, walked, walks_first}
 use Rattle.cove_model.specs.States.{State, ended_by, page_of, word_at}
-use Rattle.cove_model.specs.Steps.{Answers, IsDue, asked}
-use Rattle.cove_model.specs.Tlbs.{tlb}
+use Rattle.cove_model.specs.Steps.{Allows, Takes}
+use Rattle.cove_model.specs.Translations.{Came, Failed, Way, host_touched, tlb, touched}
 use Rattle.cove_model.specs.WordLaws.{Stand}
 
--- what a hart chose, by what its access came to
-abbrev choice_of : Option How → Choice
-choice_of (Some how) = Succeeds how
-choice_of None = Faults
+-- how an access ended, by its way
+abbrev how_of : Way → Option How
+how_of (Came how) = Some how
+how_of Failed = None
 
--- what is told of an access by the words and the ring
-abbrev IsToldHow : (words : List ℕ) (hosts : List (ℕ × Page)) (host : Bool) (p : ℕ) → Option How → Type 0
-IsToldHow words hosts host p (Some how) = IsWithinReach words hosts p
-IsToldHow words hosts host p None = (found p hosts ≡ None) × (host ≡ false)
+-- what is told of an access by the words and the rings
+abbrev IsToldHow : (words : List ℕ) → HartRings → (host : Bool) (p : ℕ) → Way → Type 0
+IsToldHow words rings host p (Came how) = IsWithinReach words rings p
+IsToldHow words rings host p Failed = (found p rings.hosts ≡ None) × (host ≡ false)
 
--- ---- a choice
+-- a play whose hart holds its target or has this note makes no walk first, and the access ends in this way
+abbrev EndsSo : (holds : Bool) → Note → (host : Bool) → Way → Type 0
+EndsSo holds note host way = (walks_first holds note ≡ false) × (ending holds note host ≡ how_of way)
+
+-- ---- how an access ends
 
 module _ (script : ScriptValue) (limits : Limits script) (H : List Entry) (legal : Legal script H) (words : List ℕ) (stand : Stand script.pages script.harts words (after script H)) (held : HartValue) (fits : Fits script H held) (l : ScriptLine) (next : next_line script held.hart held.ended ≡ Some l) (p : ℕ) (asks : accessed_page l.line ≡ Some p) (below : p < script.pages) (ready : access_need held (Some p) ≡ needs.Event) where
   abbrev holds : Bool
@@ -74,55 +82,63 @@ module _ (script : ScriptValue) (limits : Limits script) (H : List Entry) (legal
   told_host : IsHostWord (get_or words (page_word p) 0) → host ≡ true
   told_host word = (words_tell_host script.pages script.harts words (after script H) p below stand.stands.owners).1 word
 
-  unwalked_choice : held.walked ≡ None → (how : Option How) → Reaches script H held.hart p how → choice holds Unwalked host ≡ choice_of how
-  unwalked_choice none how right = by_how how right (reached_rightly script limits H legal words stand held fits l next p asks below ready held.hosts reach.Held (none, refl)).right
-    where
-      by_how : (how' : Option How) → Reaches script H held.hart p how' → holds ≡ true → choice holds Unwalked host ≡ choice_of how'
-      by_how (Some Hit) right' named = ap (λ b. choice b Unwalked host) named
-      by_how (Some Walk) right' named = absurd (false≢true (sym right'.0 ∙ named))
-      by_how None right' named = absurd (false≢true (sym right' ∙ named))
+  -- by a note and whether the target is held, in both parts
+  ends_by : (b : Bool) (note : Note) (way : Way) → holds ≡ b → EndsSo b note host way → EndsSo holds note host way
+  ends_by b note way is ends = (ap (λ c. walks_first c note) is ∙ ends.0, ap (λ c. ending c note host) is ∙ ends.1)
 
-  found_choice : HasWalked held.walked true → (how : Option How) → Reaches script H held.hart p how → IsToldHow words held.hosts host p how → choice holds Found host ≡ choice_of how
-  found_choice has_walked how right told = by_how how right told (walk_is script limits H legal words stand held fits l next p asks true has_walked).absent
+  unwalked_ends : held.walked ≡ None → (way : Way) → Reaches script H held.hart (host_at p) way → EndsSo holds Unwalked host way
+  unwalked_ends none way right = by_way way right (reached_rightly script limits H legal words stand held fits l next p asks below ready held.rings reach.Held (none, refl)).right
     where
-      no_fault : found p held.hosts ≡ None → host ≡ false → ⊥
-      no_fault none off = elim (told_rightly script limits H legal words stand held fits l next p asks ready held.hosts reach.Walked (has_walked, refl)) [
+      by_way : (way' : Way) → Reaches script H held.hart (host_at p) way' → holds ≡ true → EndsSo holds Unwalked host way'
+      by_way (Came Hit) right' named = ends_by true Unwalked (Came Hit) named (refl, refl)
+      by_way (Came Walk) right' named = absurd (false≢true (sym right'.0 ∙ named))
+      by_way Failed right' named = absurd (false≢true (sym right' ∙ named))
+
+  found_ends : HasWalked held.walked true → (way : Way) → Reaches script H held.hart (host_at p) way → IsToldHow words held.rings host p way → EndsSo holds Found host way
+  found_ends has_walked way right told = by_way way right told (walk_is script limits H legal words stand held fits l next p asks true has_walked).absent
+    where
+      no_fault : found p held.rings.hosts ≡ None → host ≡ false → ⊥
+      no_fault none off = elim (told_rightly script limits H legal words stand held fits l next p asks ready held.rings reach.Walked (has_walked, refl)) [
         | inl some ↦ false≢true (sym (ap (λ (o : Option Page). is_some o) none) ∙ some)
         | inr word ↦ false≢true (sym off ∙ told_host word)
       ]
 
-      by_how : (how' : Option How) → Reaches script H held.hart p how' → IsToldHow words held.hosts host p how' → holds ≡ false → choice holds Found host ≡ choice_of how'
-      by_how (Some Hit) right' told' lacks = absurd (false≢true (sym lacks ∙ right'))
-      by_how (Some Walk) right' told' lacks = ap (λ b. choice b Found host) lacks
-      by_how None right' told' lacks = absurd (no_fault told'.0 told'.1)
+      by_way : (way' : Way) → Reaches script H held.hart (host_at p) way' → IsToldHow words held.rings host p way' → holds ≡ false → EndsSo holds Found host way'
+      by_way (Came Hit) right' told' lacks = absurd (false≢true (sym lacks ∙ right'))
+      by_way (Came Walk) right' told' lacks = ends_by false Found (Came Walk) lacks (refl, refl)
+      by_way Failed right' told' lacks = absurd (no_fault told'.0 told'.1)
 
-  missing_choice : HasWalked held.walked false → (how : Option How) → Reaches script H held.hart p how → IsToldHow words held.hosts host p how → choice holds Missing host ≡ choice_of how
-  missing_choice has_walked how right told = by_how how right told (walk_is script limits H legal words stand held fits l next p asks false has_walked).absent
+  missing_ends : HasWalked held.walked false → (way : Way) → Reaches script H held.hart (host_at p) way → IsToldHow words held.rings host p way → EndsSo holds Missing host way
+  missing_ends has_walked way right told = by_way way right told (walk_is script limits H legal words stand held fits l next p asks false has_walked).absent
     where
-      is_the_hosts : IsWithinReach words held.hosts p → host ≡ true
+      is_the_hosts : IsWithinReach words held.rings p → host ≡ true
       is_the_hosts within = elim within [
         | inl some ↦ absurd (false≢true (sym (ap (λ (o : Option Page). is_some o) (absent_now script limits H legal words stand held fits l next p asks has_walked)) ∙ some))
         | inr word ↦ told_host word
       ]
 
-      by_how : (how' : Option How) → Reaches script H held.hart p how' → IsToldHow words held.hosts host p how' → holds ≡ false → choice holds Missing host ≡ choice_of how'
-      by_how (Some Hit) right' told' lacks = absurd (false≢true (sym lacks ∙ right'))
-      by_how (Some Walk) right' told' lacks = ap (λ b. choice b Missing host) lacks ∙ ap (choice false Missing) (is_the_hosts told')
-      by_how None right' told' lacks = ap (λ b. choice b Missing host) lacks ∙ ap (choice false Missing) told'.1
+      by_way : (way' : Way) → Reaches script H held.hart (host_at p) way' → IsToldHow words held.rings host p way' → holds ≡ false → EndsSo holds Missing host way'
+      by_way (Came Hit) right' told' lacks = absurd (false≢true (sym lacks ∙ right'))
+      by_way (Came Walk) right' told' lacks = ends_by false Missing (Came Walk) lacks (refl, ap (ending false Missing) (is_the_hosts told'))
+      by_way Failed right' told' lacks = ends_by false Missing Failed lacks (refl, ap (ending false Missing) told'.1)
 
-  -- the choice of a play is what the hart's access came to
-  pub chosen : (how : Option How) → Reaches script H held.hart p how → IsToldHow words held.hosts host p how → choice holds (note_of held.walked) host ≡ choice_of how
-  chosen how right told = go held.walked refl
+  -- an access of a play ends in the way of the hart's
+  pub ends_so : (way : Way) → Reaches script H held.hart (host_at p) way → IsToldHow words held.rings host p way → EndsSo holds (note_of held.walked) host way
+  ends_so way right told = go held.walked refl
     where
-      by_finding : (finding : Bool) → HasWalked held.walked finding → choice holds (cond finding Found Missing) host ≡ choice_of how
-      by_finding true has_walked = found_choice has_walked how right told
-      by_finding false has_walked = missing_choice has_walked how right told
+      by_finding : (finding : Bool) → HasWalked held.walked finding → EndsSo holds (cond finding Found Missing) host way
+      by_finding true has_walked = found_ends has_walked way right told
+      by_finding false has_walked = missing_ends has_walked way right told
 
-      go : (o : Option Noted) → held.walked ≡ o → choice holds (note_of o) host ≡ choice_of how
-      go None e = unwalked_choice e how right
+      go : (o : Option Noted) → held.walked ≡ o → EndsSo holds (note_of o) host way
+      go None e = unwalked_ends e way right
       go (Some noted) e = by_finding (is_found noted.walked) (subst (λ o. HasWalked o (is_found noted.walked)) (sym e) refl)
 
 -- ---- an entry is a turn
+
+-- a turn where there is room
+turn_open : (limit : ℕ) (script : ScriptValue) (play : Play) (h : ℕ) → length play.history < limit → turn limit script play h ≡ sought_turn script play (after script play.history) h (offer script (after script play.history) h) (sought script (after script play.history) h)
+turn_open limit script play h room = cond-true (nat_lt (length play.history) limit) _ play (lt-ltb (length play.history) limit room)
 
 module _ (script : ScriptValue) (within : IsTrue (is_within_limits script)) (H : List Entry) (legal : Legal script H) (words : List ℕ) (stand : Stand script.pages script.harts words (after script H)) (held : HartValue) (fits : Fits script H held) (prepared : IsPrepared script held) (notes : ℕ → Note) (mine : notes held.hart ≡ note_of held.walked) where
   abbrev play : Play
@@ -131,40 +147,58 @@ module _ (script : ScriptValue) (within : IsTrue (is_within_limits script)) (H :
   abbrev S : State
   S = after script H
 
-  access_choice : (addr : ℕ) (line : Line) → accessed_page line ≡ Some (page_of addr) → offer script S held.hart ≡ Next line → (how : Option How) → Reaches script H held.hart (page_of addr) how → IsToldHow words held.hosts (is_host (page_at S.pages (page_of addr))) (page_of addr) how → choice_at script play S held.hart addr ≡ choice_of how
-  access_choice addr line page o how right told =
-      let d = due script S held.hart line o in
+  access_ends : (addr : ℕ) → accessed_page prepared.line.line ≡ Some (page_of addr) → (way : Way) → Reaches script H held.hart (host_target addr) way → IsToldHow words held.rings (is_host (page_at S.pages (page_of addr))) (page_of addr) way
+      → EndsSo (has (page_of addr) (tlb script H held.hart).pages) (notes held.hart) (is_host (page_at S.pages (page_of addr))) way
+  access_ends addr asks way right told =
       let l = prepared.line in
-      let same : d.next ≡ l = same_Some d.next l (sym d.found ∙ ap (next_line script held.hart) (sym fits.counts) ∙ prepared.next) in
-      let asks : accessed_page l.line ≡ Some (page_of addr) = ap (λ (k : ScriptLine). accessed_page k.line) (sym same) ∙ ap accessed_page d.is ∙ page in
       let at : slice_get script.lines held.place ≡ Some l = line_at_place script held.hart held.ended held.place fits.stands ∙ prepared.next in
       let below = line_page script within held.place l (page_of addr) at asks in
       let ready = sym (ap (access_need held) asks) ∙ prepared.ready in
-      ap (λ n. choice (has (page_of addr) (tlb script H held.hart).pages) n (is_host (page_at S.pages (page_of addr)))) mine
-      ∙ chosen script (limits_of script within) H legal words stand held fits l prepared.next (page_of addr) asks below ready how right told
+      subst (λ n. EndsSo (has (page_of addr) (tlb script H held.hart).pages) n (is_host (page_at S.pages (page_of addr))) way) (sym mine)
+      (ends_so script (limits_of script within) H legal words stand held fits l prepared.next (page_of addr) asks below ready way right told)
 
-  pub entered_turn : (event : Event) → IsDue script S held.hart (asked event) → Answers S held.hart event → IsReached script H held.hart event → IsTold words held.hosts event → offer_turn script play S held.hart (offer script S held.hart) ≡ entered play held.hart event
-  entered_turn (events.Call call reply) o answers reached told =
-      ap (offer_turn script play S held.hart) o ∙ ap (λ r. entered play held.hart (events.Call call r)) (sym answers)
-  entered_turn (events.Load addr how value) o answers reached told =
-      ap (offer_turn script play S held.hart) o
-      ∙ ap (access_turn play held.hart (λ how. events.Load addr how (word_at S addr)) (events.LoadFault addr)) (access_choice addr (lines.Load addr) refl o (Some how) reached told)
-      ∙ ap (λ v. entered play held.hart (events.Load addr how v)) (sym answers.1)
-  entered_turn (events.LoadFault addr) o answers reached told =
-      ap (offer_turn script play S held.hart) o
-      ∙ ap (access_turn play held.hart (λ how. events.Load addr how (word_at S addr)) (events.LoadFault addr)) (access_choice addr (lines.Load addr) refl o None reached (told, answers))
-  entered_turn (events.Store addr value how) o answers reached told =
-      ap (offer_turn script play S held.hart) o
-      ∙ ap (access_turn play held.hart (λ how. events.Store addr value how) (events.StoreFault addr value)) (access_choice addr (lines.Store addr value) refl o (Some how) reached told)
-  entered_turn (events.StoreFault addr value) o answers reached told =
-      ap (offer_turn script play S held.hart) o
-      ∙ ap (access_turn play held.hart (λ how. events.Store addr value how) (events.StoreFault addr value)) (access_choice addr (lines.Store addr value) refl o None reached (told, answers))
-  entered_turn (events.Fetch how) o answers reached told = absurd o
-  entered_turn events.Exec o answers reached told = absurd o
-  entered_turn (events.Access how) o answers reached told = absurd o
-  entered_turn (events.Guest act reply) o answers reached told = absurd o
-  entered_turn (events.Evidence quote) o answers reached told = absurd o
-  entered_turn (events.Exit exit) o answers reached told = absurd o
+  -- the turn of an access that ends in this way
+  access_turn : (addr : ℕ) (success : How → Event) (fault : Event) (way : Way) → EndsSo (has (page_of addr) (tlb script H held.hart).pages) (notes held.hart) (is_host (page_at S.pages (page_of addr))) way
+      → sought_turn script play S held.hart (Touch (host_target addr) success fault) (Some (host_target addr)) ≡ entered play held.hart (ended_event success fault (how_of way))
+  access_turn addr success fault way ends =
+      cond-false (walks_first (has (page_of addr) (tlb script H held.hart).pages) (notes held.hart)) (walked play held.hart (is_host (page_at S.pages (page_of addr)))) (entry_turn script play S held.hart (Touch (host_target addr) success fault)) ends.0
+      ∙ ap (λ o. entered play held.hart (ended_event success fault o)) ends.1
+
+  touch_turn : (addr : ℕ) (success : How → Event) (fault event : Event) → accessed_page prepared.line.line ≡ Some (page_of addr)
+      → ((how : How) → host_touched (success how) ≡ Some (host_target addr, Came how)) → host_touched fault ≡ Some (host_target addr, Failed)
+      → Takes S held.hart (Touch (host_target addr) success fault) event → ReachesWhere script H held.hart (host_touched event) → IsTold words held.rings (host_touched event)
+      → sought_turn script play S held.hart (Touch (host_target addr) success fault) (Some (host_target addr)) ≡ entered play held.hart event
+  touch_turn addr success fault event asks comes fails (inl takes) reached told =
+      let touched = ap host_touched takes.1 ∙ comes takes.0 in
+      access_turn addr success fault (Came takes.0)
+      (access_ends addr asks (Came takes.0) (subst (ReachesWhere script H held.hart) touched reached) (subst (IsTold words held.rings) touched told))
+      ∙ ap (entered play held.hart) (sym takes.1)
+  touch_turn addr success fault event asks comes fails (inr takes) reached told =
+      let touched = ap host_touched takes.0 ∙ fails in
+      access_turn addr success fault Failed
+      (access_ends addr asks Failed (subst (ReachesWhere script H held.hart) touched reached) (subst (IsTold words held.rings) touched told, takes.1))
+      ∙ ap (entered play held.hart) (sym takes.0)
+
+  line_turns : (l : Line) → prepared.line.line ≡ l → (event : Event) → Takes S held.hart (line_offer S held.hart l) event → ReachesWhere script H held.hart (host_touched event) → IsTold words held.rings (host_touched event)
+      → sought_turn script play S held.hart (line_offer S held.hart l) (target_of (line_offer S held.hart l)) ≡ entered play held.hart event
+  line_turns (lines.Call call) is event takes reached told = ap (entered play held.hart) (sym takes)
+  line_turns (lines.Load addr) is event takes reached told =
+      touch_turn addr (λ how. events.Load addr how (word_at S addr)) (events.LoadFault addr) event (ap accessed_page is) (λ how. refl) refl takes reached told
+  line_turns (lines.Store addr value) is event takes reached told =
+      touch_turn addr (λ how. events.Store addr value how) (events.StoreFault addr value) event (ap accessed_page is) (λ how. refl) refl takes reached told
+
+  pub entered_turn : (event : Event) → Allows script S held.hart event → IsReached script H held.hart event → IsTold words held.rings (touched S held.hart event)
+      → sought_turn script play S held.hart (offer script S held.hart) (sought script S held.hart) ≡ entered play held.hart event
+  entered_turn event allows reached told =
+      let empty = empty_after script H in
+      let l = prepared.line in
+      let next = ap (next_line script held.hart) (sym fits.counts) ∙ prepared.next in
+      let d = due script S held.hart empty l next event allows in
+      let offers = offered script S held.hart empty l next d.0 in
+      let same = touched_outside S held.hart empty event in
+      ap (λ o. sought_turn script play S held.hart (offer script S held.hart) o) (sought_outside script S held.hart empty)
+      ∙ ap (λ o. sought_turn script play S held.hart o (target_of o)) offers
+      ∙ line_turns l.line refl event d.1 (subst (ReachesWhere script H held.hart) same reached) (subst (IsTold words held.rings) same told)
 
 -- a turn that leads to a play leads to its history and notes
 turn_by : (script : ScriptValue) (play : Play) (h : ℕ) (history : List Entry) (own : Note) (noted_walk : Option Noted) → turn ENTRY_LIMIT script play h ≡ record { history = history; notes = noted h own play.notes } → own ≡ note_of noted_walk → IsTurn script play h history noted_walk
@@ -205,8 +239,7 @@ made_turned script within words now mon new kept held left fits prepared room en
         let allows = made.step.0 in
         let is = turn_open ENTRY_LIMIT script (record { history = mon.history; notes = notes }) held.hart room
         ∙ entered_turn script within mon.history kept.legal words kept.stands held fits prepared notes mine entry.event
-        (subst (λ k. IsDue script (after script mon.history) k (asked entry.event)) made.by allows.0)
-        (subst (λ k. Answers (after script mon.history) k entry.event) made.by allows.1)
+        (subst (λ k. Allows script (after script mon.history) k entry.event) made.by allows)
         (subst (λ k. IsReached script mon.history k entry.event) made.by reached)
         made.told in
         let same : mon.history ++ entry_by held.hart entry.event ∷ [] ≡ new.history = ap (λ k. mon.history ++ entry_of_hart k ∷ []) (sym made.by) ∙ sym made.grown in
@@ -223,18 +256,17 @@ found_rightly words is_hosts p (walks.Found page) finds tells = tells.1 finds.1
 found_rightly words true p (walks.Missing word) finds tells = absurd (finds.1 (tells.0 refl))
 found_rightly words false p (walks.Missing word) finds tells = refl
 
-walk_line : (script : ScriptValue) (play : Play) (S : State) (h p : ℕ) (line : Line) → accessed_page line ≡ Some p → has p (tlb script play.history h).pages ≡ false → play.notes h ≡ Unwalked → line_turn script play S h line ≡ walked play h (is_host (page_at S.pages p))
-walk_line script play S h p (lines.Call call) asks lacks none = cc
-walk_line script play S h p (lines.Load addr) asks lacks none =
-    let same : page_of addr ≡ p = same_Some (page_of addr) p asks in
-    ap (access_turn play h (λ how. events.Load addr how (word_at S addr)) (events.LoadFault addr))
-    (ap (λ q. choice (has q (tlb script play.history h).pages) (play.notes h) (is_host (page_at S.pages q))) same
-    ∙ ap (λ b. choice b (play.notes h) (is_host (page_at S.pages p))) lacks ∙ ap (λ n. choice false n (is_host (page_at S.pages p))) none)
-walk_line script play S h p (lines.Store addr value) asks lacks none =
-    let same : page_of addr ≡ p = same_Some (page_of addr) p asks in
-    ap (access_turn play h (λ how. events.Store addr value how) (events.StoreFault addr value))
-    (ap (λ q. choice (has q (tlb script play.history h).pages) (play.notes h) (is_host (page_at S.pages q))) same
-    ∙ ap (λ b. choice b (play.notes h) (is_host (page_at S.pages p))) lacks ∙ ap (λ n. choice false n (is_host (page_at S.pages p))) none)
+-- the turn of a hart that seeks a page, which it does not hold, and has no note
+walk_sought : (script : ScriptValue) (play : Play) (S : State) (h p : ℕ) (offered_it : Offer) (o : Option Target) → o ≡ Some (host_at p) → has p (tlb script play.history h).pages ≡ false → play.notes h ≡ Unwalked → sought_turn script play S h offered_it o ≡ walked play h (is_host (page_at S.pages p))
+walk_sought script play S h p offered_it o is lacks none =
+    ap (sought_turn script play S h offered_it) is
+    ∙ cond-true (walks_first (has p (tlb script play.history h).pages) (play.notes h)) (walked play h (is_host (page_at S.pages p))) (entry_turn script play S h offered_it)
+    (ap (λ b. walks_first b (play.notes h)) lacks ∙ ap (walks_first false) none)
+
+line_seeks : (S : State) (h p : ℕ) (l : Line) → accessed_page l ≡ Some p → target_of (line_offer S h l) ≡ Some (host_at p)
+line_seeks S h p (lines.Call call) asks = cc
+line_seeks S h p (lines.Load addr) asks = aim_of_page (lines.Load addr) p asks
+line_seeks S h p (lines.Store addr value) asks = aim_of_page (lines.Store addr value) p asks
 
 pub walk_turned : (script : ScriptValue) → IsTrue (is_within_limits script) → (words : List ℕ) (mon : Mon) → IsKept script words mon → (held left : HartValue) → Fits script mon.history held → (phase : ℕ) → IsWalked script words phase held left → (l : ScriptLine) → next_line script held.hart held.ended ≡ Some l → length mon.history < ENTRY_LIMIT → first_behind script (after script mon.history) l.phase ≡ None → IsTurned script mon.history mon.history held left true
 walk_turned script within words mon kept held left fits phase is_walked l next room none_behind = record {
@@ -260,13 +292,15 @@ walk_turned script within words mon kept held left fits phase is_walked l next r
         let play : Play = record { history = mon.history; notes = notes } in
         let want = wanted script held phase is_walked.page is_walked.needed in
         let none = unwalked_now script mon.history held p fits want in
-        let sought_it = sought script mon.history held p fits want none in
+        let sought_it = sought_walk script mon.history held p fits want none in
         let below = wanted_below script within held p fits.stands want in
         let same : l ≡ want.line = same_Some l want.line (sym next ∙ want.next) in
-        let offers = offered script S held.hart l (ap (next_line script held.hart) (sym fits.counts) ∙ next) none_behind in
+        let empty = empty_after script mon.history in
+        let here = ap (next_line script held.hart) (sym fits.counts) ∙ next in
         let asks : accessed_page l.line ≡ Some p = ap (λ (k : ScriptLine). accessed_page k.line) same ∙ want.asks in
-        let is = turn_open ENTRY_LIMIT script play held.hart room ∙ ap (offer_turn script play S held.hart) offers
-        ∙ walk_line script play S held.hart p l.line asks sought_it.absent (mine ∙ ap note_of none) in
+        let seeks = sought_outside script S held.hart empty ∙ ap target_of (offered script S held.hart empty l here none_behind) ∙ line_seeks S held.hart p l.line asks in
+        let is = turn_open ENTRY_LIMIT script play held.hart room
+        ∙ walk_sought script play S held.hart p (offer script S held.hart) (sought script S held.hart) seeks sought_it.absent (mine ∙ ap note_of none) in
         let tells = found_rightly words (is_host (page_at S.pages p)) p is_walked.walked is_walked.finds (words_tell_host script.pages script.harts words S p below kept.stands.stands.owners) in
         turn_by script play held.hart mon.history (cond (is_host (page_at S.pages p)) Found Missing) left.walked is
         (ap (λ b. cond b Found Missing) tells ∙ sym (ap (λ (v : HartValue). note_of v.walked) is_walked.left_is))
@@ -276,11 +310,19 @@ walk_turned script within words mon kept held left fits phase is_walked l next r
 
 -- ---- a turn that changes nothing
 
-still_turn : (script : ScriptValue) (play : Play) (h : ℕ) → (length play.history < ENTRY_LIMIT → offer_turn script play (after script play.history) h (offer script (after script play.history) h) ≡ play) → turn ENTRY_LIMIT script play h ≡ play
+still_turn : (script : ScriptValue) (play : Play) (h : ℕ) → (length play.history < ENTRY_LIMIT → sought_turn script play (after script play.history) h (offer script (after script play.history) h) (sought script (after script play.history) h) ≡ play) → turn ENTRY_LIMIT script play h ≡ play
 still_turn script play h stays = elim (cases_lt (length play.history) ENTRY_LIMIT) [
   | inl room ↦ turn_open ENTRY_LIMIT script play h room ∙ stays room
   | inr full ↦ turn_full ENTRY_LIMIT script play h full
 ]
+
+-- a hart outside that is offered nothing, or waits, makes no turn
+idle_turn : (script : ScriptValue) (play : Play) (h : ℕ) (offered_it : Offer) → target_of offered_it ≡ None → entry_turn script play (after script play.history) h offered_it ≡ play → offer script (after script play.history) h ≡ offered_it → sought_turn script play (after script play.history) h (offer script (after script play.history) h) (sought script (after script play.history) h) ≡ play
+idle_turn script play h offered_it none idle is =
+    let S = after script play.history in
+    let seeks : sought script S h ≡ None =
+    sought_outside script S h (empty_after script play.history) ∙ ap target_of is ∙ none in
+    ap (sought_turn script play S h (offer script S h)) seeks ∙ ap (entry_turn script play S h) is ∙ idle
 
 stays_turned : (script : ScriptValue) (H : List Entry) (held : HartValue) → Fits script H held → ((play : Play) → play.history ≡ H → turn ENTRY_LIMIT script play held.hart ≡ play) → IsTurned script H H held held false
 stays_turned script H held fits stays = record {
@@ -300,23 +342,24 @@ stays_turned script H held fits stays = record {
 pub over_turned : (script : ScriptValue) (H : List Entry) (held : HartValue) → Fits script H held → slice_get script.lines held.place ≡ None → IsTurned script H H held held false
 over_turned script H held fits none = stays_turned script H held fits (λ play e. still_turn script play held.hart (λ room. stays play e))
   where
-    stays : (play : Play) → play.history ≡ H → offer_turn script play (after script play.history) held.hart (offer script (after script play.history) held.hart) ≡ play
+    stays : (play : Play) → play.history ≡ H → sought_turn script play (after script play.history) held.hart (offer script (after script play.history) held.hart) (sought script (after script play.history) held.hart) ≡ play
     stays play e =
         let next : next_line script held.hart (ended_by (after script play.history) held.hart) ≡ None =
         ap (λ K. next_line script held.hart (ended_by (after script K) held.hart)) e ∙ ap (next_line script held.hart) (sym fits.counts)
         ∙ sym (line_at_place script held.hart held.ended held.place fits.stands) ∙ none in
-        ap (λ o. offer_turn script play (after script play.history) held.hart (offer_of script (after script play.history) o)) next
+        let S = after script play.history in
+        idle_turn script play held.hart Nothing refl refl (offer_outside S held.hart (empty_after script play.history) script ∙ ap (outside_offer script S held.hart) next)
 
 -- another hart is behind
 pub behind_turned : (script : ScriptValue) (H : List Entry) (held : HartValue) → Fits script H held → (l : ScriptLine) → next_line script held.hart held.ended ≡ Some l → (other : ℕ) → first_behind script (after script H) l.phase ≡ Some other → IsTurned script H H held held false
 behind_turned script H held fits l here other behind = stays_turned script H held fits (λ play e. still_turn script play held.hart (λ room. stays play e))
   where
-    stays : (play : Play) → play.history ≡ H → offer_turn script play (after script play.history) held.hart (offer script (after script play.history) held.hart) ≡ play
+    stays : (play : Play) → play.history ≡ H → sought_turn script play (after script play.history) held.hart (offer script (after script play.history) held.hart) (sought script (after script play.history) held.hart) ≡ play
     stays play e =
         let next : next_line script held.hart (ended_by (after script play.history) held.hart) ≡ Some l =
         ap (λ K. next_line script held.hart (ended_by (after script K) held.hart)) e ∙ ap (next_line script held.hart) (sym fits.counts) ∙ here in
-        ap (λ o. offer_turn script play (after script play.history) held.hart (offer_of script (after script play.history) o)) next
-        ∙ ap (λ o. offer_turn script play (after script play.history) held.hart (unless_behind o l.line)) (ap (λ K. first_behind script (after script K) l.phase) e ∙ behind)
+        idle_turn script play held.hart (Behind other) refl refl
+        (offered_behind script (after script play.history) held.hart (empty_after script play.history) l next other (ap (λ K. first_behind script (after script K) l.phase) e ∙ behind))
 
 -- ---- as the code comes to them
 
@@ -350,12 +393,10 @@ idle_never script held l next idle = by_access (accessed_page l.line) (sym (ap (
 
     by_access : (o : Option ℕ) → access_need held o ≡ needs.Idle → ⊥
     by_access None e = cc
-    by_access (Some p) e = by_test (is_some (found p held.hosts) || has_walked_to held.walked p) p e
+    by_access (Some p) e = by_test (is_some (found p held.rings.hosts) || has_walked_to held.walked p) p e
 
 -- words that are kept have each page's word
 pub kept_words : (script : ScriptValue) → IsTrue (is_within_limits script) → (words : List ℕ) (mon : Mon) → IsKept script words mon → length mon.history < ENTRY_LIMIT → HavePageWords script.pages words
 kept_words script within words mon kept room p below =
-    let some = (limits_of script within).some_harts in
     let size = kept.stands.stands.size in
-    let fences = kept.epoch in
-    (omega arith, words_are_words script.pages script.harts words (after script mon.history) p below kept.stands (omega arith) (omega arith) (omega arith))
+    (omega arith, kept_page_words script (limits_of script within) words mon kept room p below)

@@ -1,10 +1,10 @@
 -- A walk that a hart needs, and that it goes on fitting afterwards.
 use Rattle.std.proofs.Common.{◌≡◌, ℕ, ◌<◌, Bool, true, false, cond, ◌||◌, is_some, IsTrue, List, Option, None, Some, nat_lt, eq-eqb, refl, sym, subst, ap, ◌∙◌}
 use Rattle.std.proofs.lemmas.Bool.{false≢true}
-use Rattle.std.proofs.lemmas.Option.{none-some, same_Some}
+use Rattle.std.proofs.lemmas.Option.{none-some}
 use Rattle.cove_base.specs.HartLines.{next_line}
 use Rattle.cove_base.specs.HartPlaces.{IsNextPlace}
-use Rattle.cove_base.specs.HartValues.{HartValue, accessed_page, after_walk, has_walked_to}
+use Rattle.cove_base.specs.HartValues.{HartRings, HartValue, accessed_page, after_walk, has_walked_to}
 use Rattle.cove_base.specs.Rings.{found}
 use Rattle.cove_base.specs.Scripts.{ScriptValue, is_within_limits}
 use Rattle.cove_base.specs.declared.events.Entry.{Entry}
@@ -23,19 +23,24 @@ use Rattle.cove_core.specs.Walks.{IsFoundIn}
 use Rattle.cove_core.specs.declared.monitors.Mon.{Mon}
 use Rattle.cove_hart.specs.Needs.{access_need, line_need, next_need}
 use Rattle.cove_hart.specs.declared.needs.Need.TheVariants.{Walk, Event, Idle}
-use Rattle.cove_model.proofs.Fitting.{fits_found, fits_missing, ring_finds_page}
+use Rattle.cove_model.proofs.Fitting.{fits_walked, host_at, ring_finds_page}
+use Rattle.cove_core.proofs.Performing.{target_is}
+use Rattle.cove_model.proofs.Offering.{aim_of_page}
+use Rattle.cove_model.proofs.Playing.{was_now}
+use Rattle.cove_model.proofs.Unbuilt.{outside_after}
+use Rattle.cove_model.specs.Aims.{aimed_at, next_aim}
 use Rattle.cove_model.proofs.ToldProofs.{words_tell_host}
-use Rattle.cove_model.specs.Fits.{Fits, IsSought, UnusedFits, WalkFits, ring_of, walked_ring}
+use Rattle.cove_model.specs.Fits.{Fits, IsSought, UnusedFits, WalkFits, rings_of, walked_rings}
 use Rattle.cove_model.specs.Histories.{after}
 use Rattle.cove_model.specs.Owners.{has, is_host, page_at}
-use Rattle.cove_model.specs.Tlbs.{tlb}
+use Rattle.cove_model.specs.Translations.{tlb}
 
 -- a walk that is needed is one to the page of the next line, which neither the ring nor an unused walk has
 pub record IsWanted (script : ScriptValue) (held : HartValue) (p : ℕ) : Type 0 where
   pub line : ScriptLine
   pub next : next_line script held.hart held.ended ≡ Some line
   pub asks : accessed_page line.line ≡ Some p
-  pub lacks : found p held.hosts ≡ None
+  pub lacks : found p held.rings.hosts ≡ None
   pub unwalked : has_walked_to held.walked p ≡ false
 
 lacking : (o : Option Page) → is_some o ≡ false → o ≡ None
@@ -51,7 +56,7 @@ wanted script held phase page needed = by_line (next_line script held.hart held.
     same_walk : (p : ℕ) → Walk (targets.Host (record { 0 = p })) ≡ Walk (targets.Host page) → p ≡ page.0
     same_walk p e = cc
 
-    by_test : (line : ScriptLine) → next_line script held.hart held.ended ≡ Some line → (p : ℕ) → accessed_page line.line ≡ Some p → (a b : Bool) → is_some (found p held.hosts) ≡ a → has_walked_to held.walked p ≡ b → cond (a || b) Event (Walk (targets.Host (record { 0 = p }))) ≡ Walk (targets.Host page) → IsWanted script held page.0
+    by_test : (line : ScriptLine) → next_line script held.hart held.ended ≡ Some line → (p : ℕ) → accessed_page line.line ≡ Some p → (a b : Bool) → is_some (found p held.rings.hosts) ≡ a → has_walked_to held.walked p ≡ b → cond (a || b) Event (Walk (targets.Host (record { 0 = p }))) ≡ Walk (targets.Host page) → IsWanted script held page.0
     by_test line next p asks true b e f need = cc
     by_test line next p asks false true e f need = cc
     by_test line next p asks false false e f need =
@@ -60,13 +65,13 @@ wanted script held phase page needed = by_line (next_line script held.hart held.
           line = line;
           next = next;
           asks = asks ∙ ap (λ k. Some k) same;
-          lacks = subst (λ k. found k held.hosts ≡ None) same (lacking (found p held.hosts) e);
+          lacks = subst (λ k. found k held.rings.hosts ≡ None) same (lacking (found p held.rings.hosts) e);
           unwalked = subst (λ k. has_walked_to held.walked k ≡ false) same f;
         }
 
     by_access : (line : ScriptLine) → next_line script held.hart held.ended ≡ Some line → (o : Option ℕ) → accessed_page line.line ≡ o → access_need held o ≡ Walk (targets.Host page) → IsWanted script held page.0
     by_access line next None asks need = cc
-    by_access line next (Some p) asks need = by_test line next p asks (is_some (found p held.hosts)) (has_walked_to held.walked p) refl refl need
+    by_access line next (Some p) asks need = by_test line next p asks (is_some (found p held.rings.hosts)) (has_walked_to held.walked p) refl refl need
 
     by_phase : (line : ScriptLine) → next_line script held.hart held.ended ≡ Some line → (late : Bool) → cond late Idle (access_need held (accessed_page line.line)) ≡ Walk (targets.Host page) → IsWanted script held page.0
     by_phase line next true need = cc
@@ -86,30 +91,26 @@ wanted_below script within held p place want =
 pub unwalked_now : (script : ScriptValue) (H : List Entry) (held : HartValue) (p : ℕ) → Fits script H held → IsWanted script held p → held.walked ≡ None
 unwalked_now script H held p fits want = go held.walked fits.walk want.unwalked
   where
-    same : (q : ℕ) → IsSought script H held.hart q → q ≡ p
-    same q is =
-        let line : is.line ≡ want.line = same_Some is.line want.line (sym is.next ∙ ap (next_line script held.hart) (sym fits.counts) ∙ want.next) in
-        same_Some q p (sym is.asks ∙ ap (λ (k : ScriptLine). accessed_page k.line) line ∙ want.asks)
+    off : (t : Target) (w : Walked) → t ≡ host_at p → has_walked_to (Some (record { target = t; walked = w })) p ≡ false → ⊥
+    off t w same lacks = false≢true (sym lacks ∙ ap (λ (k : Target). has_walked_to (Some (record { target = k; walked = w })) p) same ∙ eq-eqb p p refl)
 
     unfit : (target : Target) (w : Walked) → WalkFits script H held.hart target w → has_walked_to (Some (record { target = target; walked = w })) p ≡ false → ⊥
-    unfit (targets.Host q) (walks.Found page) f off = false≢true (sym off ∙ eq-eqb q.0 p (same q.0 f.0))
-    unfit (targets.Host q) (walks.Missing word) f off = false≢true (sym off ∙ eq-eqb q.0 p (same q.0 f))
-    unfit (targets.Fetch g) w f off = f
-    unfit (targets.Access g) w f off = f
+    unfit target (walks.Found page) f = off target (walks.Found page) (target_is script H held.hart held.ended fits.counts want.line want.next p want.asks target f.0)
+    unfit target (walks.Missing word) f = off target (walks.Missing word) (target_is script H held.hart held.ended fits.counts want.line want.next p want.asks target f)
 
     go : (noted : Option Noted) → UnusedFits script H held.hart noted → has_walked_to noted p ≡ false → noted ≡ None
-    go None f off = refl
-    go (Some noted) f off = absurd (unfit noted.target noted.walked f off)
+    go None f lacks = refl
+    go (Some noted) f lacks = absurd (unfit noted.target noted.walked f lacks)
 
-pub sought : (script : ScriptValue) (H : List Entry) (held : HartValue) (p : ℕ) → Fits script H held → IsWanted script held p → held.walked ≡ None → IsSought script H held.hart p
+pub sought : (script : ScriptValue) (H : List Entry) (held : HartValue) (p : ℕ) → Fits script H held → IsWanted script held p → held.walked ≡ None → IsSought script H held.hart (host_at p)
 sought script H held p fits want none =
-    let pages = (tlb script H held.hart).pages in
-    let ring : held.hosts ≡ ring_of pages = fits.ring ∙ ap (walked_ring (ring_of pages)) none in
+    let T = tlb script H held.hart in
+    let rings : held.rings ≡ rings_of T = fits.rings ∙ ap (walked_rings (rings_of T)) none in
     record {
-      line = want.line;
-      next = ap (next_line script held.hart) (sym fits.counts) ∙ want.next;
-      asks = want.asks;
-      absent = absent_by (has p pages) (sym (ring_finds_page pages p) ∙ ap (found p) (sym ring) ∙ want.lacks);
+      aims =
+          ap (aimed_at script (after script H) held.hart) (outside_after script H held.hart)
+          ∙ ap next_aim (ap (next_line script held.hart) (sym fits.counts) ∙ want.next) ∙ aim_of_page want.line.line p want.asks;
+      absent = absent_by (has p T.pages) (sym (ring_finds_page T.pages p) ∙ ap (λ (r : HartRings). found p r.hosts) (sym rings) ∙ want.lacks);
     }
   where
     absent_by : (b : Bool) → cond b (Some (page_number p)) None ≡ None → b ≡ false
@@ -121,13 +122,12 @@ fits_walk script words held page (walks.Found q) below want finds mon kept fits 
     let H = mon.history in
     let none = unwalked_now script H held page.0 fits want in
     let host : is_host (page_at (after script H).pages page.0) ≡ true = (words_tell_host script.pages script.harts words (after script H) page.0 below kept.stands.stands.owners).1 finds.1 in
-    let same : q ≡ page = ap page_number finds.0 in
-    subst (λ k. Fits script H (after_walk held (targets.Host page) (walks.Found k))) (sym same)
-    (fits_found script H held page fits none (sought script H held page.0 fits want none) host)
+    fits_walked script H held (targets.Host page) (walks.Found q) fits none
+    (sought script H held page.0 fits want none, record { was = was_now script H held.hart (targets.Host page) host; led = finds.0 })
 fits_walk script words held page (walks.Missing word) below want finds mon kept fits =
     let H = mon.history in
     let none = unwalked_now script H held page.0 fits want in
-    fits_missing script H held page word fits none (sought script H held page.0 fits want none)
+    fits_walked script H held (targets.Host page) (walks.Missing word) fits none (sought script H held page.0 fits want none)
 
 -- ---- a hart that needs no walk
 

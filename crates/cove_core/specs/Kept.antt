@@ -1,5 +1,5 @@
 -- What the monitor keeps true of its history between two entries.
-use Rattle.std.specs.Prelude.{◌≡◌, ℕ, ◌<◌, ◌≤◌, List, length, slice_index}
+use Rattle.std.specs.Prelude.{◌≡◌, ℕ, ◌<◌, List, length, slice_index}
 use Rattle.cove_base.specs.HartPlaces.{IsNextPlace}
 use Rattle.cove_base.specs.Places.{count_word}
 use Rattle.cove_base.specs.Scripts.{ScriptValue}
@@ -9,7 +9,7 @@ use Rattle.cove_model.specs.Cached.{IsCached}
 use Rattle.cove_model.specs.Histories.{Legal, after}
 use Rattle.cove_model.specs.States.{State, ended_by}
 use Rattle.cove_model.specs.WordLaws.{Stand}
-use Rattle.cove_model.specs.WordsStand.{FramesStand, epoch_in}
+use Rattle.cove_model.specs.WordsStand.{FencesWithin, FramesStand}
 
 -- the board of the monitor is the script's
 pub record IsBoard (script : ScriptValue) (ground : Ground) : Type 0 where
@@ -22,7 +22,7 @@ pub record ProgressStands (script : ScriptValue) (S : State) (places : List ℕ)
   pub each : (hart : ℕ) → hart < script.harts → IsNextPlace script hart (ended_by S hart) (slice_index places hart)
 
 -- The history is legal and cached, and the words, the frames and the progress of the harts stand for the state after
--- it. The count word is its length, and no more fences began.
+-- it. The count word is its length, and no fence has a greater number.
 pub record IsKept (script : ScriptValue) (words : List ℕ) (mon : Mon) : Type 0 where
   pub board : IsBoard script mon.ground
   pub legal : Legal script mon.history
@@ -31,4 +31,4 @@ pub record IsKept (script : ScriptValue) (words : List ℕ) (mon : Mon) : Type 0
   pub frames : FramesStand mon.ground.memory (after script mon.history)
   pub progress : ProgressStands script (after script mon.history) mon.progress
   pub count : slice_index words (count_word script.pages script.harts) ≡ length mon.history
-  pub epoch : epoch_in script.pages words ≤ length mon.history
+  pub fences : FencesWithin script.pages script.harts words (length mon.history)

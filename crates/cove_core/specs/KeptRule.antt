@@ -1,6 +1,6 @@
 -- What a history that is kept says of the shared words and of each hart that fits it.
 use Rattle.std.specs.Prelude.{◌≢◌, ℕ, ◌<◌, ◌≤◌, IsTrue, List, length}
-use Rattle.cove_base.specs.HartValues.{HartValue}
+use Rattle.cove_base.specs.HartValues.{HartValue, Holding, holding}
 use Rattle.cove_base.specs.Scripts.{ScriptValue, is_within_limits}
 use Rattle.cove_base.specs.declared.events.Entry.{Entry}
 use Rattle.cove_base.specs.declared.limits.TheConstants.{ENTRY_LIMIT}
@@ -28,7 +28,7 @@ abbrev pub KeptHartsLive : Type 0
 KeptHartsLive =
     (script : ScriptValue) (words : List ℕ) (mon : Mon) (held : HartValue)
     → IsTrue (is_within_limits script) → IsKept script words mon
-    → Fits script mon.history held → IsLive script mon.history words held
+    → Fits script mon.history held → IsLive script mon.history words (holding held)
 
 -- each page that a hart that fits names, by its ring or by an unused walk, is one that the words let it use: the
 -- host's, or in conversion, and the hart has answered no later epoch
@@ -36,12 +36,12 @@ abbrev pub KeptHartsUse : Type 0
 KeptHartsUse =
     (script : ScriptValue) (words : List ℕ) (mon : Mon) (held : HartValue) (p : ℕ)
     → IsTrue (is_within_limits script) → IsKept script words mon
-    → Fits script mon.history held → Names held p → (p < script.pages) × MayUse script.pages words held.hart p
+    → Fits script mon.history held → Names (holding held) p → (p < script.pages) × MayUse script.pages words held.hart p
 
 -- An entry of a hart leaves the part of every other hart, also of one that made its walk meanwhile.
 abbrev pub StepsKeepLive : Type 0
 StepsKeepLive =
-    (script : ScriptValue) (before now : List ℕ) (old new : Mon) (held left other : HartValue) (entry : Entry)
+    (script : ScriptValue) (before now : List ℕ) (old new : Mon) (held left : HartValue) (other : Holding) (entry : Entry)
     → length old.history < ENTRY_LIMIT → IsKept script before old
     → IsMade script before now old new held left entry → other.hart ≢ held.hart
     → IsLive script old.history before other → IsLive script new.history now other

@@ -1,30 +1,28 @@
 -- What an entry that a hart makes leaves.
-use Rattle.std.specs.Prelude.{◌≡◌, ◌≢◌, ℕ, ◌+◌, ◌<◌, ◌≤◌, List, [], ◌∷◌, ◌++◌, ◌⊎◌, IsSome, None, length, slice_index, slice_set}
+use Rattle.std.specs.Prelude.{◌≡◌, ◌≢◌, ℕ, ◌+◌, ◌<◌, List, [], ◌∷◌, ◌++◌, ◌⊎◌, IsSome, Some, None, length, slice_index, slice_set}
 use Rattle.cove_base.specs.HartPlaces.{IsNextPlace}
-use Rattle.cove_base.specs.HartValues.{HartValue}
+use Rattle.cove_base.specs.HartValues.{HartRings, HartValue}
 use Rattle.cove_base.specs.PageWords.{IsHostWord}
 use Rattle.cove_base.specs.Places.{count_word, page_word}
 use Rattle.cove_base.specs.Rings.{found}
 use Rattle.cove_base.specs.Scripts.{ScriptValue}
 use Rattle.cove_base.specs.declared.events.Entry.{Entry}
 use Rattle.cove_base.specs.declared.events.Event.{Event}
-use Rattle.cove_base.specs.declared.events.Event.TheVariants as events
-use Rattle.cove_base.specs.declared.numbers.Page.{Page}
-use Rattle.cove_core.specs.Called.{no_tables}
+use Rattle.cove_base.specs.declared.walks.Target.TheVariants.{Host, Fetch, Access}
 use Rattle.cove_core.specs.Kept.{IsBoard, IsKept, ProgressStands}
 use Rattle.cove_core.specs.declared.monitors.Mon.{Mon}
 use Rattle.cove_model.specs.BoardRule.{HasFound}
 use Rattle.cove_model.specs.Cached.{IsCached, IsReached}
-use Rattle.cove_model.specs.Fits.{Fits, ring_of}
+use Rattle.cove_model.specs.Fits.{Fits, rings_of}
 use Rattle.cove_model.specs.Histories.{Legal, after}
 use Rattle.cove_model.specs.LawfulCounts.{IsCountable}
-use Rattle.cove_model.specs.LawfulStores.{MakesLawful}
+use Rattle.cove_model.specs.LawfulStores.{MakesLawful, no_tables}
 use Rattle.cove_model.specs.Owners.{holder, page_at}
-use Rattle.cove_model.specs.States.{ended_by, page_of}
+use Rattle.cove_model.specs.States.{ended_by}
 use Rattle.cove_model.specs.Steps.{Allows, IsStep, done}
-use Rattle.cove_model.specs.Tlbs.{renewed, tlb}
+use Rattle.cove_model.specs.Translations.{Touched, Came, Failed, renewed, tlb, touched}
 use Rattle.cove_model.specs.WordLaws.{Stand}
-use Rattle.cove_model.specs.WordsStand.{FramesStand, epoch_in}
+use Rattle.cove_model.specs.WordsStand.{FencesWithin, FramesStand}
 
 -- An event that a hart made, before its entry is counted: the history and the progress are those before it, and the
 -- words, the frames and the ring of the hart are those after it.
@@ -38,36 +36,32 @@ pub record IsPerformed (script : ScriptValue) (words : List ℕ) (mon : Mon) (he
   pub stands : Stand script.pages script.harts words (done (after script mon.history) held.hart event)
   pub frames : FramesStand mon.ground.memory (done (after script mon.history) held.hart event)
   pub count : slice_index words (count_word script.pages script.harts) ≡ length mon.history
-  pub epoch : epoch_in script.pages words ≤ length mon.history + 1
+  pub fences : FencesWithin script.pages script.harts words (length mon.history + 1)
   pub on_board : held.hart < script.harts
   pub counts : held.ended ≡ ended_by (after script mon.history) held.hart
   pub place : IsNextPlace script held.hart held.ended held.place
-  pub ring : held.hosts ≡ ring_of (renewed (after script mon.history) (tlb script mon.history held.hart) event).pages
+  pub rings : held.rings ≡ rings_of (renewed (after script mon.history) held.hart (tlb script mon.history held.hart) event)
+  pub outside : held.inside ≡ None
 
--- a page is named by a ring, or its word says that it is the host's
-abbrev pub IsWithinReach : (words : List ℕ) (hosts : List (ℕ × Page)) (p : ℕ) → Type 0
-IsWithinReach words hosts p = IsSome (found p hosts) ⊎ IsHostWord (slice_index words (page_word p))
+-- a host page is named by its ring, or its word says that it is the host's
+abbrev pub IsWithinReach : (words : List ℕ) → HartRings → (p : ℕ) → Type 0
+IsWithinReach words rings p = IsSome (found p rings.hosts) ⊎ IsHostWord (slice_index words (page_word p))
 
--- an access that succeeded had its page within reach at the call, and one that faulted had none in its ring
-abbrev pub IsTold : (words : List ℕ) (hosts : List (ℕ × Page)) → Event → Type 0
-IsTold words hosts (events.Call call reply) = Unit {0}
-IsTold words hosts (events.Load addr how value) = IsWithinReach words hosts (page_of addr)
-IsTold words hosts (events.LoadFault addr) = found (page_of addr) hosts ≡ None
-IsTold words hosts (events.Store addr value how) = IsWithinReach words hosts (page_of addr)
-IsTold words hosts (events.StoreFault addr value) = found (page_of addr) hosts ≡ None
-IsTold words hosts (events.Fetch how) = ⊥
-IsTold words hosts events.Exec = ⊥
-IsTold words hosts (events.Access how) = ⊥
-IsTold words hosts (events.Guest act reply) = ⊥
-IsTold words hosts (events.Evidence quote) = ⊥
-IsTold words hosts (events.Exit exit) = ⊥
+-- what an event looked for was within reach at the call where it came there, and in no ring where it did not; no guest
+-- runs yet
+abbrev pub IsTold : (words : List ℕ) → HartRings → Touched → Type 0
+IsTold words rings None = Unit {0}
+IsTold words rings (Some (Host p, Came how)) = IsWithinReach words rings p.0
+IsTold words rings (Some (Host p, Failed)) = found p.0 rings.hosts ≡ None
+IsTold words rings (Some (Fetch g, way)) = ⊥
+IsTold words rings (Some (Access g, way)) = ⊥
 
 -- a page that the entry gave to another is named by no ring of the hart, and no unused walk of it found the page
 abbrev pub IsClear : ScriptValue → (before : List Entry) → Entry → HartValue → Type 0
 IsClear script before entry held =
     (p : ℕ)
     → holder (page_at (after script (before ++ entry ∷ [])).pages p) ≢ holder (page_at (after script before).pages p)
-    → (found p held.hosts ≡ None) × (HasFound held.walked p → ⊥)
+    → (found p held.rings.hosts ≡ None) × (HasFound held.walked p → ⊥)
 
 -- The stores of an entry of a hart: lawful ones, and then that of the count, on words on which it may be counted.
 abbrev pub StoresAndCounts : ScriptValue → (history : List Entry) (hart : ℕ) → Entry → (before now : List ℕ) → Type 0
@@ -85,7 +79,7 @@ pub record IsMade (script : ScriptValue) (before now : List ℕ) (old new : Mon)
   pub same_hart : left.hart ≡ held.hart
   pub fits : Fits script new.history left
   pub others : (other : HartValue) → other.hart ≢ held.hart → Fits script old.history other → Fits script new.history other
-  pub told : IsTold before held.hosts entry.event
+  pub told : IsTold before held.rings (touched (after script old.history) held.hart entry.event)
   -- no ring and no unused walk names a page whose holder changed
   pub clear : IsClear script old.history entry left
   pub others_clear : (other : HartValue) → other.hart ≢ held.hart → Fits script old.history other → IsClear script old.history entry other

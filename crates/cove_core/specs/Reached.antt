@@ -1,22 +1,22 @@
 -- What a hart comes to at a page of its next line, by its ring, its unused walk and the words.
 use Rattle.std.specs.Prelude.{◌≡◌, ℕ, false, true, ◌<◌, Bool, List, [], length, if◌then◌else◌, Option, Some, None, slice_index}
 use Rattle.cove_base.specs.HartLines.{next_line}
-use Rattle.cove_base.specs.HartValues.{HartValue, accessed_page}
+use Rattle.cove_base.specs.HartValues.{HartRings, HartValue, accessed_page, no_rings, rings_with}
 use Rattle.cove_base.specs.PageWords.{IsHostWord, IsPageWord}
 use Rattle.cove_base.specs.Places.{page_word}
-use Rattle.cove_base.specs.Rings.{filled, found}
+use Rattle.cove_base.specs.Rings.{found}
 use Rattle.cove_base.specs.Scripts.{ScriptValue}
 use Rattle.cove_base.specs.declared.calls.HostCall.{HostCall}
-use Rattle.cove_base.specs.declared.calls.HostCall.TheVariants.{GlobalFence, LocalFence}
+use Rattle.cove_base.specs.declared.calls.HostCall.TheVariants.{GlobalFence, LocalFence, Run}
 use Rattle.cove_base.specs.declared.events.Event.{Event}
 use Rattle.cove_base.specs.declared.events.Event.TheVariants as events
 use Rattle.cove_base.specs.declared.events.How.TheVariants.{Hit, Walk}
 use Rattle.cove_base.specs.declared.limits.TheConstants.{PAGE_LIMIT}
-use Rattle.cove_base.specs.declared.numbers.Page.{Page}
 use Rattle.cove_base.specs.declared.scripts.Line.{Line}
 use Rattle.cove_base.specs.declared.scripts.Line.TheVariants as lines
 use Rattle.cove_base.specs.declared.scripts.ScriptLine.{ScriptLine}
 use Rattle.cove_base.specs.declared.statuses.Reply.{Reply}
+use Rattle.cove_base.specs.declared.walks.Target.TheVariants.{Host}
 use Rattle.cove_base.specs.declared.walks.Noted.{Noted}
 use Rattle.cove_base.specs.declared.events.Walked.{Walked}
 use Rattle.cove_base.specs.declared.events.Walked.TheVariants as walks
@@ -47,13 +47,13 @@ HasWalked (Some noted) finding = is_found noted.walked ≡ finding
 
 -- A page is held by the ring; or a walk that was not used yet found it; or that walk found none, and it is the host's
 -- by now, so that it comes into the ring; or it is not.
-abbrev pub ComesTo : (words : List ℕ) (held : HartValue) (p : ℕ) (hosts : List (ℕ × Page)) → Reach → Type 0
-ComesTo words held p hosts reach.Held = (held.walked ≡ None) × (hosts ≡ held.hosts)
-ComesTo words held p hosts reach.Walked = HasWalked held.walked true × (hosts ≡ held.hosts)
-ComesTo words held p hosts reach.Fresh =
-    HasWalked held.walked false × IsHostWord (slice_index words (page_word p)) × (hosts ≡ filled held.hosts p (record { 0 = p }))
-ComesTo words held p hosts reach.Absent =
-    HasWalked held.walked false × (IsHostWord (slice_index words (page_word p)) → ⊥) × (hosts ≡ held.hosts)
+abbrev pub ComesTo : (words : List ℕ) (held : HartValue) (p : ℕ) (rings : HartRings) → Reach → Type 0
+ComesTo words held p rings reach.Held = (held.walked ≡ None) × (rings ≡ held.rings)
+ComesTo words held p rings reach.Walked = HasWalked held.walked true × (rings ≡ held.rings)
+ComesTo words held p rings reach.Fresh =
+    HasWalked held.walked false × IsHostWord (slice_index words (page_word p)) × (rings ≡ rings_with held.rings (Host (record { 0 = p })) (record { 0 = p }))
+ComesTo words held p rings reach.Absent =
+    HasWalked held.walked false × (IsHostWord (slice_index words (page_word p)) → ⊥) × (rings ≡ held.rings)
 
 -- the event of a load, and of a store
 abbrev pub load_event : (addr value : ℕ) → Reach → Event
@@ -75,43 +75,44 @@ frames_by reach.Walked before store_event = store_event
 frames_by reach.Fresh before store_event = store_event
 frames_by reach.Absent before store_event = before
 
--- an answered call empties the ring of its hart
-abbrev pub empties : HostCall → (accepted : Bool) → Bool
-empties GlobalFence accepted = accepted
-empties LocalFence accepted = true
-empties _ accepted = false
+-- the rings of a hart after its call was accepted: both fences empty all, and a run those of guests
+abbrev pub rings_forgotten : HostCall → HartRings → HartRings
+rings_forgotten GlobalFence rings = no_rings
+rings_forgotten LocalFence rings = no_rings
+rings_forgotten (Run t v fuel) rings = record rings { fetches = []; accesses = [] }
+rings_forgotten _ rings = rings
 
--- the ring of a hart after its call was answered
-abbrev pub ring_after : HostCall → (accepted : Bool) → List (ℕ × Page) → List (ℕ × Page)
-ring_after call accepted hosts = if empties call accepted then [] else hosts
+-- and after it was answered
+abbrev pub rings_left : HostCall → (accepted : Bool) → HartRings → HartRings
+rings_left call accepted rings = if accepted then rings_forgotten call rings else rings
 
--- what an access of a page needs of the words, the frames and the ring; a walk that found none left the ring without it
+-- what an access of a page needs of the words, the frames and the rings; a walk that found none left them without it
 pub record IsReachable (words : List ℕ) (frames : List (List ℕ)) (held : HartValue) (p : ℕ) : Type 0 where
   pub limit : p < PAGE_LIMIT
   pub place : p < length words
   pub frame : p < length frames
   pub word : IsPageWord (slice_index words p)
-  pub absent : HasWalked held.walked false → found p held.hosts ≡ None
+  pub absent : HasWalked held.walked false → found p held.rings.hosts ≡ None
 
 -- a load that a hart made
-pub record IsLoaded (words : List ℕ) (frames : List (List ℕ)) (held : HartValue) (addr : ℕ) (hosts : List (ℕ × Page)) (event : Event) : Type 0 where
+pub record IsLoaded (words : List ℕ) (frames : List (List ℕ)) (held : HartValue) (addr : ℕ) (rings : HartRings) (event : Event) : Type 0 where
   pub reach : Reach
-  pub reaches : ComesTo words held (page_of addr) hosts reach
+  pub reaches : ComesTo words held (page_of addr) rings reach
   pub is : event ≡ load_event addr (slice_index (frame frames (page_of addr)) (word_place addr)) reach
 
 -- a store that a hart made
-pub record IsStored (words : List ℕ) (before now : List (List ℕ)) (held : HartValue) (addr value : ℕ) (hosts : List (ℕ × Page)) (event : Event) : Type 0 where
+pub record IsStored (words : List ℕ) (before now : List (List ℕ)) (held : HartValue) (addr value : ℕ) (rings : HartRings) (event : Event) : Type 0 where
   pub reach : Reach
-  pub reaches : ComesTo words held (page_of addr) hosts reach
+  pub reaches : ComesTo words held (page_of addr) rings reach
   pub is : event ≡ store_event addr value reach
   pub frames : now ≡ frames_by reach before (with_word before (page_of addr) (word_place addr) value)
 
 -- a call that a hart made
-pub record IsAnswered (pages harts hart : ℕ) (call : HostCall) (old new : List ℕ) (before now : List (List ℕ)) (hosts left : List (ℕ × Page)) (event : Event) : Type 0 where
+pub record IsAnswered (pages harts hart : ℕ) (call : HostCall) (old new : List ℕ) (before now : List (List ℕ)) (rings left : HartRings) (event : Event) : Type 0 where
   pub reply : Reply
   pub called : Called pages harts hart call old new before now reply
   pub is : event ≡ events.Call call reply
-  pub ring : left ≡ ring_after call (is_success reply.status) hosts
+  pub rings_are : left ≡ rings_left call (is_success reply.status) rings
 
 -- what a hart needs of the words and the frames to do what a line says
 abbrev pub CanDo : (pages harts : ℕ) (words : List ℕ) (frames : List (List ℕ)) → HartValue → Line → Type 0
@@ -120,10 +121,10 @@ CanDo pages harts words frames held (lines.Load addr) = IsReachable words frames
 CanDo pages harts words frames held (lines.Store addr value) = IsReachable words frames held (page_of addr)
 
 -- a hart did what a line says; an access changes no word, and a load no frame
-abbrev pub IsDone : (pages harts : ℕ) (old new : List ℕ) (before now : List (List ℕ)) → HartValue → (hosts : List (ℕ × Page)) → Event → Line → Type 0
-IsDone pages harts old new before now held hosts event (lines.Call call) =
-    IsAnswered pages harts held.hart call old new before now held.hosts hosts event
-IsDone pages harts old new before now held hosts event (lines.Load addr) =
-    IsLoaded old before held addr hosts event × (new ≡ old) × (now ≡ before)
-IsDone pages harts old new before now held hosts event (lines.Store addr value) =
-    IsStored old before now held addr value hosts event × (new ≡ old)
+abbrev pub IsDone : (pages harts : ℕ) (old new : List ℕ) (before now : List (List ℕ)) → HartValue → (rings : HartRings) → Event → Line → Type 0
+IsDone pages harts old new before now held rings event (lines.Call call) =
+    IsAnswered pages harts held.hart call old new before now held.rings rings event
+IsDone pages harts old new before now held rings event (lines.Load addr) =
+    IsLoaded old before held addr rings event × (new ≡ old) × (now ≡ before)
+IsDone pages harts old new before now held rings event (lines.Store addr value) =
+    IsStored old before now held addr value rings event × (new ≡ old)

@@ -4,19 +4,20 @@ ghost use Rattle.std.specs.Prelude.{◌≡◌, ◌<◌, ◌↔◌, ◌^◌, IsTr
 ghost use Rattle.cove_base.specs.PageWords.{IsHostWord, IsPageWord};
 ghost use Rattle.cove_base.specs.Rings.{found};
 ghost use Rattle.cove_base.specs.Unchanged.{Unchanged};
-ghost use Rattle.cove_core.specs.Called.{IsReady, no_tables};
-ghost use Rattle.cove_core.specs.Reached.{CanDo, HasWalked, IsAnswered, IsDone, IsLoaded, IsReachable, IsStored, ComesTo, empties, frames_by, load_event, store_event};
+ghost use Rattle.cove_core.specs.Called.{IsReady};
+ghost use Rattle.cove_core.specs.Reached.{CanDo, HasWalked, IsAnswered, IsDone, IsLoaded, IsReachable, IsStored, ComesTo, frames_by, load_event, rings_forgotten, store_event};
 ghost use Rattle.cove_hart.specs.HartStates.{hart_value};
 ghost use Rattle.cove_mem.specs.Frames.{frame, with_word};
-ghost use Rattle.cove_model.specs.LawfulStores.{AllowsLawful};
+ghost use Rattle.cove_model.specs.LawfulStores.{AllowsLawful, no_tables};
 ghost use Rattle.cove_model.specs.States.{page_of, word_place};
 ghost use Rattle.cove_base.specs.Statuses.{is_success};
 
 use crate::calls::call;
 use crate::ground::Ground;
-use cove_base::{Event, HostCall, How, Line, Page, Status, Walked, Words};
+use cove_base::{Event, HostCall, How, Line, Page, Status, Target, Walked, Words};
 use cove_hart::HartState;
 use cove_mem::Memory;
+use cove_tlb::Rings;
 use cove_owner::{PageState, state};
 
 /// How a hart comes to the page of its next line.
@@ -37,8 +38,8 @@ pub fn perform<W: Words>(w: &mut W, g: &mut Ground, hart: &mut HartState, line: 
     requires can { CanDo g.old.pages g.old.harts (W.words w.old) g.old.memory (hart_value hart.old) line }
     requires allowed { AllowsLawful (W.allows (W.guard w.old)) g.old.pages g.old.harts no_tables hart.old.hart.0 (W.words w.old) }
     ensures done { IsDone g.old.pages g.old.harts (W.words w.old) (W.words w.new) g.old.memory g.new.memory
-        (hart_value hart.old) hart.new.hosts result line }
-    ensures hart { hart.new ≡ record hart.old { hosts = hart.new.hosts } }
+        (hart_value hart.old) hart.new.rings result line }
+    ensures hart { hart.new ≡ record hart.old { rings = hart.new.rings } }
     ensures guard { W.guard w.new ≡ W.guard w.old }
     ensures board { (g.new.pages ≡ g.old.pages) × (g.new.harts ≡ g.old.harts) }
 {
@@ -52,8 +53,8 @@ pub fn perform<W: Words>(w: &mut W, g: &mut Ground, hart: &mut HartState, line: 
 /// Makes a load for a hart.
 pub fn load<W: Words>(w: &mut W, memory: &Memory, hart: &mut HartState, addr: u64) -> Event
     requires { IsReachable (W.words w.old) memory.now (hart_value hart.old) (page_of addr) }
-    ensures loaded { IsLoaded (W.words w.old) memory.now (hart_value hart.old) addr hart.new.hosts result }
-    ensures hart { hart.new ≡ record hart.old { hosts = hart.new.hosts } }
+    ensures loaded { IsLoaded (W.words w.old) memory.now (hart_value hart.old) addr hart.new.rings result }
+    ensures hart { hart.new ≡ record hart.old { rings = hart.new.rings } }
     ensures unchanged { Unchanged W.words W.clean W.guard w.old w.new }
 {
     let page = Page((addr / 4096) as u32);
@@ -71,8 +72,8 @@ pub fn store<W: Words>(
     value: u64,
 ) -> Event
     requires { IsReachable (W.words w.old) memory.old (hart_value hart.old) (page_of addr) }
-    ensures stored { IsStored (W.words w.old) memory.old memory.new (hart_value hart.old) addr value hart.new.hosts result }
-    ensures hart { hart.new ≡ record hart.old { hosts = hart.new.hosts } }
+    ensures stored { IsStored (W.words w.old) memory.old memory.new (hart_value hart.old) addr value hart.new.rings result }
+    ensures hart { hart.new ≡ record hart.old { rings = hart.new.rings } }
     ensures unchanged { Unchanged W.words W.clean W.guard w.old w.new }
 {
     let page = Page((addr / 4096) as u32);
@@ -86,14 +87,14 @@ pub fn answer<W: Words>(w: &mut W, g: &mut Ground, hart: &mut HartState, c: Host
     requires ready { IsReady g.old.pages g.old.harts hart.old.hart.0 (W.words w.old) g.old.memory }
     requires allowed { AllowsLawful (W.allows (W.guard w.old)) g.old.pages g.old.harts no_tables hart.old.hart.0 (W.words w.old) }
     ensures answered { IsAnswered g.old.pages g.old.harts hart.old.hart.0 c
-        (W.words w.old) (W.words w.new) g.old.memory g.new.memory hart.old.hosts hart.new.hosts result }
-    ensures hart { hart.new ≡ record hart.old { hosts = hart.new.hosts } }
+        (W.words w.old) (W.words w.new) g.old.memory g.new.memory hart.old.rings hart.new.rings result }
+    ensures hart { hart.new ≡ record hart.old { rings = hart.new.rings } }
     ensures guard { W.guard w.new ≡ W.guard w.old }
     ensures board { (g.new.pages ≡ g.old.pages) × (g.new.harts ≡ g.old.harts) }
 {
     let reply = call(w, g, hart.hart, c);
-    if empties(c, is_success(reply.status)) {
-        hart.hosts.clear();
+    if is_success(reply.status) {
+        forget(&mut hart.rings, c);
     }
     Event::Call { call: c, reply }
 }
@@ -103,9 +104,9 @@ fn look_at<W: Words>(w: &mut W, hart: &mut HartState, page: Page) -> Reach
     requires place { page.0 < length (W.words w.old) }
     requires limit { page.0 < 2 ^ 16 }
     requires word { IsPageWord (slice_index (W.words w.old) page.0) }
-    requires absent { HasWalked hart.old.walked false → found page.0 hart.old.hosts ≡ None }
-    ensures reaches { ComesTo (W.words w.old) (hart_value hart.old) page.0 hart.new.hosts result }
-    ensures hart { hart.new ≡ record hart.old { hosts = hart.new.hosts } }
+    requires absent { HasWalked hart.old.walked false → found page.0 hart.old.rings.hosts ≡ None }
+    ensures reaches { ComesTo (W.words w.old) (hart_value hart.old) page.0 hart.new.rings result }
+    ensures hart { hart.new ≡ record hart.old { rings = hart.new.rings } }
     ensures unchanged { Unchanged W.words W.clean W.guard w.old w.new }
 {
     let Some(noted) = hart.walked else {
@@ -117,7 +118,7 @@ fn look_at<W: Words>(w: &mut W, hart: &mut HartState, page: Page) -> Reach
     if !is_host(w, page) {
         return Reach::Absent;
     }
-    hart.hosts.fill(u64::from(page.0), page);
+    hart.rings.fill(Target::Host(page), page);
     Reach::Fresh
 }
 
@@ -185,14 +186,14 @@ fn store_where(memory: &mut Memory, reach: Reach, page: Page, word: u16, value: 
     }
 }
 
-// Whether an answered call empties the ring of its hart.
-fn empties(c: HostCall, accepted: bool) -> bool
-    ensures { result ≡ empties c accepted }
+// Empties what an accepted call of a hart empties of its rings.
+fn forget(rings: &mut Rings, c: HostCall)
+    ensures { rings.new ≡ rings_forgotten c rings.old }
 {
     match c {
-        HostCall::GlobalFence => accepted,
-        HostCall::LocalFence => true,
-        _ => false,
+        HostCall::GlobalFence | HostCall::LocalFence => rings.clear(),
+        HostCall::Run { .. } => rings.clear_guests(),
+        _ => {}
     }
 }
 

@@ -4,10 +4,10 @@ ghost use Rattle.std.specs.Prelude.{◌≡◌, ◌+◌, ◌≤◌, length};
 ghost use Rattle.cove_base.specs.PageWords.{host};
 ghost use Rattle.cove_base.specs.Places.{epoch_word, page_word};
 ghost use Rattle.cove_base.specs.Stores.{AllAllowed, fills, stored};
-ghost use Rattle.cove_core.specs.Called.{Called, IsReady, no_tables};
+ghost use Rattle.cove_core.specs.Called.{Called, IsReady};
 ghost use Rattle.cove_core.specs.Replies.{accepted, refused_with, fault_status};
 ghost use Rattle.cove_core.specs.Zeros.{AreZeros};
-ghost use Rattle.cove_model.specs.LawfulStores.{AllowsLawful};
+ghost use Rattle.cove_model.specs.LawfulStores.{AllowsLawful, no_tables};
 ghost use Rattle.cove_model.specs.WordLaws.{zeroed};
 
 use crate::ground::Ground;

@@ -7,11 +7,10 @@ ghost use Rattle.cove_base.specs.Scripts.{is_within_limits};
 ghost use Rattle.cove_base.specs.Unchanged.{Unchanged};
 ghost use Rattle.cove_core.specs.Kept.{IsKept};
 ghost use Rattle.cove_core.specs.Made.{IsMade, IsPerformed};
-ghost use Rattle.cove_core.specs.Called.{no_tables};
 ghost use Rattle.cove_core.specs.Reached.{IsPrepared};
 ghost use Rattle.cove_core.specs.Stepped.{IsAhead, IsBehind, IsFirst, IsLimit, IsStill, OnAhead, OnDid};
 ghost use Rattle.cove_model.specs.LawfulCounts.{CountsEntries};
-ghost use Rattle.cove_model.specs.LawfulStores.{AllowsLawful};
+ghost use Rattle.cove_model.specs.LawfulStores.{AllowsLawful, no_tables};
 ghost use Rattle.cove_hart.specs.HartStates.{hart_value};
 ghost use Rattle.cove_model.specs.Fits.{Fits};
 
@@ -84,7 +83,7 @@ fn enter<W: Words>(w: &mut W, mon: &mut Mon, script: &Script, hart: &mut HartSta
     ensures fits { Fits script.now mon.new.history (hart_value hart.new) }
     ensures grown { mon.new.history ≡ mon.old.history ++ (record { hart = hart.old.hart; event = event }) ∷ [] }
     ensures hart { hart.new.hart ≡ hart.old.hart }
-    ensures hosts { hart.new.hosts ≡ hart.old.hosts }
+    ensures rings { hart.new.rings ≡ hart.old.rings }
     ensures used { hart.new.walked ≡ None }
     ensures words { W.words w.new
         ≡ slice_set (W.words w.old) (count_word script.now.pages script.now.harts) (length mon.old.history + 1) }

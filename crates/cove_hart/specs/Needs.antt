@@ -13,7 +13,7 @@ use Rattle.cove_hart.specs.declared.needs.Need.TheVariants.{Walk, Event, Idle}
 abbrev pub access_need : HartValue → Option ℕ → Need
 access_need hart None = Event
 access_need hart (Some page) =
-    if is_some (found page hart.hosts) || has_walked_to hart.walked page then Event
+    if is_some (found page hart.rings.hosts) || has_walked_to hart.walked page then Event
     else Walk (Host (record { 0 = page }))
 
 -- a hart whose next line is of a later phase has nothing to do yet

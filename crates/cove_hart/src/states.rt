@@ -1,13 +1,13 @@
 ghost use Rattle.std.specs.Prelude.{◌≡◌, ◌+◌, ◌<◌, ◌≤◌, ◌^◌, [], length, drop, filter, slice_get, Some, None, IsSome, IfSome, IfOk};
 ghost use Rattle.cove_base.specs.HartLines.{next_line};
 ghost use Rattle.cove_base.specs.HartPlaces.{is_line_of, IsNextPlace};
-ghost use Rattle.cove_base.specs.HartValues.{accessed_page, after_walk, has_walked_to, ring_finds};
+ghost use Rattle.cove_base.specs.HartValues.{accessed_page, after_walk, has_walked_to, no_rings, rings_find};
 ghost use Rattle.cove_hart.specs.HartStates.{hart_value};
 ghost use Rattle.cove_hart.specs.Needs.{access_need, next_need};
 
 use crate::needs::Need;
 use cove_base::{HartId, Line, NoMemory, Noted, Page, Script, ScriptLine, Target, Walked};
-use cove_tlb::Ring;
+use cove_tlb::Rings;
 use std::alloc::Global;
 
 /// What one hart holds. `ended` is how many of its lines are ended, and `place` where the next one stands among
@@ -17,7 +17,7 @@ pub struct HartState {
     pub hart: HartId,
     pub ended: u32,
     pub place: usize,
-    pub hosts: Ring,
+    pub rings: Rings,
     pub walked: Option<Noted>,
 }
 
@@ -28,8 +28,9 @@ impl HartState {
           hart = hart.0;
           ended = 0;
           place = state.place;
-          hosts = [];
+          rings = no_rings;
           walked = None;
+          inside = None;
         }) }
         ensures place { IfOk result (λ state. IsNextPlace script.now hart.0 0 state.place) }
     {
@@ -37,7 +38,7 @@ impl HartState {
             hart,
             ended: 0,
             place: next_place(script, hart, 0),
-            hosts: Ring::new(alloc)?,
+            rings: Rings::new(alloc)?,
             walked: None,
         })
     }
@@ -78,10 +79,11 @@ impl HartState {
         requires { page < 2 ^ 32 }
         ensures { result ≡ access_need (hart_value self.now) (Some page) }
     {
-        if self.hosts.find(page).is_some() || self.has_walked_to(page) {
+        let target = Target::Host(Page(page as u32));
+        if self.rings.find(target).is_some() || self.has_walked_to(page) {
             return Need::Event;
         }
-        Need::Walk(Target::Host(Page(page as u32)))
+        Need::Walk(target)
     }
 
     // Whether the walk that is not used yet looked for this page.
@@ -97,13 +99,13 @@ impl HartState {
         }
     }
 
-    /// Keeps a walk, and puts the page into the ring where it found one. The ring does not name the target yet.
+    /// Keeps a walk, and puts the page into its ring where it found one. No ring names the target yet.
     pub fn note(&mut self, target: Target, walked: Walked)
-        requires { ring_finds self.old.hosts target ≡ None }
+        requires { rings_find self.old.rings target ≡ None }
         ensures { hart_value self.new ≡ after_walk (hart_value self.old) target walked }
     {
-        if let (Target::Host(key), Walked::Found(page)) = (target, walked) {
-            self.hosts.fill(u64::from(key.0), page);
+        if let Walked::Found(page) = walked {
+            self.rings.fill(target, page);
         }
         self.walked = Some(Noted { target, walked });
     }

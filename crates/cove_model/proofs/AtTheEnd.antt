@@ -1,70 +1,79 @@
 -- What a history gives, one entry later.
 use Rattle.cove_base.specs.Scripts.{ScriptValue}
-use Rattle.cove_base.specs.declared.calls.HostCall.{HostCall}
-use Rattle.cove_base.specs.declared.calls.HostCall.TheVariants.{Convert}
 use Rattle.cove_base.specs.declared.events.Entry.{Entry}
 use Rattle.cove_base.specs.declared.events.Event.{Event}
 use Rattle.cove_base.specs.declared.scripts.Line.{Line}
-use Rattle.cove_base.specs.declared.statuses.Reply.{Reply}
-use Rattle.cove_model.specs.Effects.{effect, refusal, state_by}
-use Rattle.cove_model.specs.Examples.{call}
-use Rattle.cove_model.specs.Follows.{told}
-use Rattle.cove_model.specs.Histories.{EachEntry, Legal, after, after_entry, own}
-use Rattle.cove_model.specs.States.{State, ended_by, opening}
-use Rattle.cove_model.specs.Steps.{Allows, after_event, asked, done}
-use Rattle.cove_model.specs.Tlbs.{Tlb, held_after, held_from, nothing_held, renewed, tlb}
-use Rattle.std.proofs.Common.{List, None, Option, Some, T, [], ap, append-nil, append_assoc, arith, eq-eqb, eqb, filter_map, fold, get_or, get_or-set_other, get_or-set_same, length, length-set, ne_eqb, refl, subst, sym, ℕ, ◌++◌, ◌+◌, ◌<◌, ◌∙◌, ◌∷◌, ◌≡◌, ◌≢◌}
+use Rattle.cove_model.proofs.Frames.{framed_done}
+use Rattle.cove_model.specs.Histories.{EachEntry, Legal, after, after_entry, own, told}
+use Rattle.cove_model.specs.States.{Seat, State, ended_by, opening}
+use Rattle.cove_model.specs.Steps.{Allows, after_event, asked, done, end_line, line_ended}
+use Rattle.cove_model.specs.Translations.{Tlb, held_after, held_from, nothing_held, renewed, tlb}
+use Rattle.std.proofs.Common.{List, None, Option, Some, [], ap, append-nil, append_assoc, arith, eq-eqb, eqb, filter_map, fold, get_or, get_or-set_other, get_or-set_same, inl, inr, length, length-set, ne_eqb, refl, subst, sym, ℕ, ◌++◌, ◌+◌, ◌<◌, ◌∙◌, ◌∷◌, ◌≡◌, ◌≢◌, ◌⊎◌}
 use Rattle.std.proofs.lemmas.Bool.{cond-false, cond-true}
 use Rattle.std.proofs.lemmas.List.Elements.{filter-append, filter_map-append}
 use Rattle.std.proofs.lemmas.List.Sums.{fold_push}
 use Rattle.std.specs.List.{cons_option}
-use Rattle.cove_base.specs.declared.events.Event.TheVariants as events
 
 pub after_push : (script : ScriptValue) (history : List Entry) (entry : Entry) → after script (history ++ entry ∷ []) ≡ after_entry (after script history) entry
 after_push script history entry = fold_push after_entry (opening script) history entry
 
--- ---- what no event changes
-
-pub effect_ended : (S : State) (h : ℕ) (call : HostCall) → (effect S h call).ended ≡ S.ended
-effect_ended S h (Convert base n) = refl
-effect_ended S h _ = refl
-
-pub effect_harts : (S : State) (h : ℕ) (call : HostCall) → (effect S h call).harts ≡ S.harts
-effect_harts S h (Convert base n) = refl
-effect_harts S h _ = refl
-
-state_ended : (reply : Option Reply) (S T : State) → T.ended ≡ S.ended → (state_by reply S T).ended ≡ S.ended
-state_ended None S T e = e
-state_ended (Some reply) S T e = refl
-
-state_harts : (reply : Option Reply) (S T : State) → T.harts ≡ S.harts → (state_by reply S T).harts ≡ S.harts
-state_harts None S T e = e
-state_harts (Some reply) S T e = refl
-
-pub done_ended : (S : State) (h : ℕ) (event : Event) → (done S h event).ended ≡ S.ended
-done_ended S h (events.Call call reply) = state_ended (refusal S h call) S (effect S h call) (effect_ended S h call)
-done_ended S h _ = refl
-
-pub done_harts : (S : State) (h : ℕ) (event : Event) → (done S h event).harts ≡ S.harts
-done_harts S h (events.Call call reply) = state_harts (refusal S h call) S (effect S h call) (effect_harts S h call)
-done_harts S h _ = refl
-
 -- ---- the ended lines
 
-pub ended_length : (S : State) (h : ℕ) (event : Event) → length (after_event S h event).ended ≡ length S.ended
-ended_length S h event = length-set (done S h event).ended h (ended_by (done S h event) h + 1) ∙ ap length (done_ended S h event)
+ended_cases : (h : ℕ) (o : Option Seat) (S : State) → ((line_ended h o S).ended ≡ S.ended) ⊎ (line_ended h o S ≡ end_line h S)
+ended_cases h None S = inr refl
+ended_cases h (Some seat) S = inl refl
 
-pub ended_own : (S : State) (h : ℕ) (event : Event) → h < length S.ended → ended_by (after_event S h event) h ≡ ended_by S h + 1
-ended_own S h event lt =
-    let e = done_ended S h event in
+pub ended_length : (S : State) (h : ℕ) (event : Event) → length (after_event S h event).ended ≡ length S.ended
+ended_length S h event = go ((done S h event).seats h) ∙ ap length (framed_done S h event).ended
+  where
+    go : (o : Option Seat) → length (line_ended h o (done S h event)).ended ≡ length (done S h event).ended
+    go None = length-set (done S h event).ended h (ended_by (done S h event) h + 1)
+    go (Some seat) = refl
+
+-- a hart that is outside after its event has ended a line
+pub ended_own : (S : State) (h : ℕ) (event : Event) → h < length S.ended → (done S h event).seats h ≡ None → ended_by (after_event S h event) h ≡ ended_by S h + 1
+ended_own S h event lt outside =
+    let e = (framed_done S h event).ended in
     let l = ap length e in
     let within : h < length (done S h event).ended = omega arith in
-    get_or-set_same (done S h event).ended h (ended_by (done S h event) h + 1) 0 within ∙ ap (λ xs. get_or xs h 0 + 1) e
+    ap (λ o. ended_by (line_ended h o (done S h event)) h) outside
+    ∙ get_or-set_same (done S h event).ended h (ended_by (done S h event) h + 1) 0 within ∙ ap (λ xs. get_or xs h 0 + 1) e
+
+-- and one that is inside has not
+pub ended_inside : (S : State) (h : ℕ) (event : Event) (seat : Seat) → (done S h event).seats h ≡ Some seat → ended_by (after_event S h event) h ≡ ended_by S h
+ended_inside S h event seat inside =
+    ap (λ o. ended_by (line_ended h o (done S h event)) h) inside ∙ ap (λ xs. get_or xs h 0) (framed_done S h event).ended
 
 pub ended_other : (S : State) (h k : ℕ) (event : Event) → k ≢ h → ended_by (after_event S h event) k ≡ ended_by S k
-ended_other S h k event ne =
-    get_or-set_other (done S h event).ended h k (ended_by (done S h event) h + 1) 0 ne
-    ∙ ap (λ xs. get_or xs k 0) (done_ended S h event)
+ended_other S h k event ne = go ((done S h event).seats h) ∙ ap (λ xs. get_or xs k 0) (framed_done S h event).ended
+  where
+    go : (o : Option Seat) → ended_by (line_ended h o (done S h event)) k ≡ ended_by (done S h event) k
+    go None = get_or-set_other (done S h event).ended h k (ended_by (done S h event) h + 1) 0 ne
+    go (Some seat) = refl
+
+-- the end of a line changes nothing else
+pub line_pages : (h : ℕ) (o : Option Seat) (S : State) → (line_ended h o S).pages ≡ S.pages
+line_pages h None S = refl
+line_pages h (Some seat) S = refl
+
+pub line_seats : (h : ℕ) (o : Option Seat) (S : State) → (line_ended h o S).seats ≡ S.seats
+line_seats h None S = refl
+line_seats h (Some seat) S = refl
+
+pub line_tvms : (h : ℕ) (o : Option Seat) (S : State) → (line_ended h o S).tvms ≡ S.tvms
+line_tvms h None S = refl
+line_tvms h (Some seat) S = refl
+
+pub line_harts : (h : ℕ) (o : Option Seat) (S : State) → (line_ended h o S).harts ≡ S.harts
+line_harts h None S = refl
+line_harts h (Some seat) S = refl
+
+pub line_kicked : (h : ℕ) (o : Option Seat) (S : State) → (line_ended h o S).kicked ≡ S.kicked
+line_kicked h None S = refl
+line_kicked h (Some seat) S = refl
+
+pub after_harts_same : (S : State) (h : ℕ) (event : Event) → (after_event S h event).harts ≡ S.harts
+after_harts_same S h event = line_harts h ((done S h event).seats h) (done S h event) ∙ (framed_done S h event).harts
 
 -- ---- facts of each entry
 
@@ -114,6 +123,9 @@ legal_at script before entry rest legal = each_at (Allowed script) [] before ent
 
 -- ---- own entries, and the lines that they answer
 
+pub own_alone : (entry : Entry) (h : ℕ) → (entry.hart.0 ≡ h → ⊥) → own (entry ∷ []) h ≡ []
+own_alone entry h ne = cond-false (eqb entry.hart.0 h) (entry ∷ []) [] (ne_eqb entry.hart.0 h ne)
+
 pub own_same : (history : List Entry) (entry : Entry) (h : ℕ) → entry.hart.0 ≡ h → own (history ++ entry ∷ []) h ≡ own history h ++ entry ∷ []
 own_same history entry h e =
     filter-append (λ x. eqb x.hart.0 h) history (entry ∷ [])
@@ -143,7 +155,7 @@ held_push h S held (x ∷ history) entry = held_push h (after_entry S x) (held_a
 pub tlb_push : (script : ScriptValue) (history : List Entry) (entry : Entry) (h : ℕ) → tlb script (history ++ entry ∷ []) h ≡ held_after h (after script history) (tlb script history h) entry
 tlb_push script history entry h = held_push h (opening script) nothing_held history entry
 
-pub tlb_same : (script : ScriptValue) (history : List Entry) (entry : Entry) (h : ℕ) → entry.hart.0 ≡ h → tlb script (history ++ entry ∷ []) h ≡ renewed (after script history) (tlb script history h) entry.event
+pub tlb_same : (script : ScriptValue) (history : List Entry) (entry : Entry) (h : ℕ) → entry.hart.0 ≡ h → tlb script (history ++ entry ∷ []) h ≡ renewed (after script history) h (tlb script history h) entry.event
 tlb_same script history entry h e = tlb_push script history entry h ∙ cond-true (eqb entry.hart.0 h) _ (tlb script history h) (eq-eqb entry.hart.0 h e)
 
 pub tlb_other : (script : ScriptValue) (history : List Entry) (entry : Entry) (h : ℕ) → (entry.hart.0 ≡ h → ⊥) → tlb script (history ++ entry ∷ []) h ≡ tlb script history h

@@ -1,12 +1,12 @@
 -- Stores beside the page words, the epoch and the answered numbers.
 use Rattle.std.proofs.Common.{◌≡◌, ◌≢◌, ℕ, ◌+◌, ◌<◌, ◌≤◌, ltb, List, None, Some, Option, get_or, set, refl, sym, ◌∙◌, ap, inl, inr, arith, length-set, get_or-set_other}
-use Rattle.cove_base.specs.Places.{Place, PageWord, TableWord, EpochWord, AnsweredWord, TvmWord, HartWord, CountWord, IsPlace, place_of, table_word, epoch_word, answered_word, tvm_word, hart_word}
+use Rattle.cove_base.specs.Places.{count_word, Place, PageWord, TableWord, EpochWord, AnsweredWord, TvmWord, HartWord, CountWord, IsPlace, place_of, table_word, epoch_word, answered_word, tvm_word, hart_word}
 use Rattle.cove_model.specs.Owners.{Owner, Host, Converting, Free, Given, page_at}
 use Rattle.cove_model.specs.States.{State}
 use Rattle.cove_model.specs.WordsStand.{OwnersStand, PageStands, IsAnsweredByAll, WaitsFor, epoch_in, answered_in, maps_of, harts_behind}
-use Rattle.cove_model.specs.WordLaws.{Stand, IsBeside, OthersLeaveOwners, NumbersLeaveWords, CountLeavesWords}
+use Rattle.cove_model.specs.WordLaws.{IsBeside, OthersLeaveOwners, CountLeavesWords}
 use Rattle.cove_model.proofs.HartLists.{filter_harts}
-use Rattle.cove_model.proofs.StandLemmas.{page_moves}
+use Rattle.cove_model.proofs.StandLemmas.{seat_moves, page_moves}
 
 behind_agree : (harts : ℕ) (before after : ℕ → ℕ) (number : ℕ) → ((k : ℕ) → k < harts → after k ≡ before k) → harts_behind harts before number ≡ harts_behind harts after number
 behind_agree harts before after number same =
@@ -67,31 +67,28 @@ others_leave_owners pages harts words S place word on beside old =
     (λ k within. get_or-set_other words at (answered_word pages k) word 0 (off.numbers k within))
     old
 
--- and it leaves all words, where it is no table word and no hart's word
-leaves : (pages harts : ℕ) (words : List ℕ) (S : State) (place : Place) (word : ℕ) → IsPlace pages harts place → IsBeside place → ((p i : ℕ) → p < pages → i < 512 → table_word pages p i ≢ place_of pages harts place) → tvm_word pages harts 0 ≢ place_of pages harts place → ((k : ℕ) → k < harts → hart_word pages harts k ≢ place_of pages harts place) → Stand pages harts words S → Stand pages harts (set words (place_of pages harts place) word) S
-leaves pages harts words S place word on beside tables unused outside stand =
-    let off = apart pages harts place on beside in
-    let at = place_of pages harts place in
+-- a store of the count leaves all words standing
+pub count_leaves_words : CountLeavesWords
+count_leaves_words pages harts words S word stand =
+    let off = apart pages harts CountWord tt tt in
+    let at = count_word pages harts in
     let words' : List ℕ = set words at word in
+    let kept : (place : ℕ) → place ≢ at → get_or words' place 0 ≡ get_or words place 0 = λ place ne. get_or-set_other words at place word 0 ne in
     record {
       stands = record {
         size = length-set words at word ∙ stand.stands.size;
-        owners = others_leave_owners pages harts words S place word on beside stand.stands.owners;
-        tables = λ p i within small e. get_or-set_other words at (table_word pages p i) word 0 (tables p i within small) ∙ stand.stands.tables p i within small e;
-        unused = get_or-set_other words at (tvm_word pages harts 0) word 0 unused ∙ stand.stands.unused;
-        outside = λ k within. get_or-set_other words at (hart_word pages harts k) word 0 (outside k within) ∙ stand.stands.outside k within;
+        owners = others_leave_owners pages harts words S CountWord word tt tt stand.stands.owners;
+        tables = λ p i within small e. kept (table_word pages p i) (let ne : table_word pages p i ≢ at = omega arith in ne) ∙ stand.stands.tables p i within small e;
+        unused = kept (tvm_word pages harts 0) (let ne : tvm_word pages harts 0 ≢ at = omega arith in ne) ∙ stand.stands.unused;
+        seats = λ k within.
+            let ne : hart_word pages harts k ≢ at = omega arith in
+            seat_moves pages harts words words' (get_or words (hart_word pages harts k) 0) (get_or words' (hart_word pages harts k) 0) (S.seats k)
+            (λ t low high. let apart_t : tvm_word pages harts t ≢ at = omega arith in kept (tvm_word pages harts t) apart_t)
+            (kept (hart_word pages harts k) ne) (stand.stands.seats k within);
       };
       within = λ k within.
-          let number : answered_in pages words' k ≡ answered_in pages words k = get_or-set_other words at (answered_word pages k) word 0 (off.numbers k within) in
-          let epoch : epoch_in pages words' ≡ epoch_in pages words = get_or-set_other words at (epoch_word pages) word 0 off.epoch in
+          let number : answered_in pages words' k ≡ answered_in pages words k = kept (answered_word pages k) (off.numbers k within) in
+          let epoch : epoch_in pages words' ≡ epoch_in pages words = kept (epoch_word pages) off.epoch in
           let was : answered_in pages words k ≤ epoch_in pages words = stand.within k within in
           omega arith;
     }
-
-pub numbers_leave_words : NumbersLeaveWords
-numbers_leave_words pages harts words S tvm word on stand =
-    leaves pages harts words S (TvmWord tvm) word on tt (λ p i within small. omega arith) (omega arith) (λ k within. omega arith) stand
-
-pub count_leaves_words : CountLeavesWords
-count_leaves_words pages harts words S word stand =
-    leaves pages harts words S CountWord word tt tt (λ p i within small. omega arith) (omega arith) (λ k within. omega arith) stand

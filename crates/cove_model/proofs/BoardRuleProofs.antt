@@ -3,28 +3,31 @@ use Rattle.std.proofs.Common.{◌≡◌, ◌≢◌, ℕ, ◌+◌, ◌<◌, ◌�
 use Rattle.std.proofs.lemmas.Bool.{cases_lt}
 use Rattle.std.proofs.lemmas.List.{get_or_past, length_push}
 use Rattle.cove_base.proofs.ScriptLimits.{Limits, limits_of}
-use Rattle.cove_base.specs.HartValues.{HartValue}
+use Rattle.cove_base.specs.HartValues.{HartValue, Holding, holding}
 use Rattle.cove_base.specs.PageWords.{host, IsHostWord}
-use Rattle.cove_base.specs.Places.{count_word, epoch_word, answered_word, all_words}
+use Rattle.cove_base.specs.Places.{count_word, epoch_word, answered_word, tvm_word, all_words}
 use Rattle.cove_base.specs.Scripts.{ScriptValue}
 use Rattle.cove_base.specs.Stores.{AllAllowed, stored}
 use Rattle.cove_base.specs.declared.events.Entry.{Entry}
 use Rattle.cove_base.specs.declared.events.Walked.{Walked}
 use Rattle.cove_base.specs.declared.events.Walked.TheVariants as walks
+use Rattle.cove_base.specs.declared.limits.TheConstants.{ENTRY_LIMIT}
+use Rattle.cove_base.specs.declared.numbers.Page.{Page}
 use Rattle.cove_base.specs.declared.walks.Noted.{Noted}
 use Rattle.cove_base.specs.declared.walks.Target.{Target}
 use Rattle.cove_base.specs.declared.walks.Target.TheVariants as targets
 use Rattle.cove_model.proofs.AtTheEnd.{each_push, legal_push, tlb_other}
 use Rattle.cove_model.proofs.BesideProofs.{count_leaves_words}
-use Rattle.cove_model.proofs.Fitting.{ring_cases, walk_was_host}
+use Rattle.cove_model.proofs.Fitting.{host_at, led_longer, ring_cases, same_page, walk_was_found}
 use Rattle.cove_model.proofs.Members.{false-true}
 use Rattle.cove_model.proofs.Playing.{was_longer, was_now}
-use Rattle.cove_model.proofs.StoreLawProofs.{stores_keep_answers, stores_keep_epoch, stores_keep_host, stores_keep_usable}
+use Rattle.cove_model.proofs.StoreLawProofs.{stores_keep_answers, stores_keep_fences, stores_keep_host, stores_keep_usable}
 use Rattle.cove_model.proofs.ToldProofs.{words_tell_host}
-use Rattle.cove_model.proofs.Usable.{held_since, usable}
+use Rattle.cove_model.proofs.Histories.{usable}
+use Rattle.cove_model.proofs.Holding.{held_since, holds_able}
 use Rattle.cove_model.specs.BoardRule.{AreBounded, CountsKeepRule, FittingHartsLive, FittingHartsUse, IsLive, IsMonitored, ListsKeepRule, LiveWalksWereRight, StoresKeepRule, UnusedLives, WalkLives}
-use Rattle.cove_model.specs.Cached.{IsReached, WasHost}
-use Rattle.cove_model.specs.Fits.{Fits, UnusedFits, WalkFits, ring_of, walked_ring}
+use Rattle.cove_model.specs.Cached.{IsReached, WasFound}
+use Rattle.cove_model.specs.Fits.{Fits, UnusedFits, WalkFits, rings_of, walked_rings}
 use Rattle.cove_model.specs.Histories.{after}
 use Rattle.cove_model.specs.LawfulCounts.{IsCountable}
 use Rattle.cove_model.specs.LawfulStores.{Tables, IsLawful, Counts, Converts, Frees, Gives, TakesBack, Removes, Answers, Begins}
@@ -32,8 +35,8 @@ use Rattle.cove_model.specs.Owners.{Owner, Host, Converting, Free, Given, has, m
 use Rattle.cove_model.specs.States.{State}
 use Rattle.cove_model.specs.Steps.{Allows}
 use Rattle.cove_model.specs.StoreLaw.{IsUsableWord, MayUse}
-use Rattle.cove_model.specs.Tlbs.{Tlb, tlb}
-use Rattle.cove_model.specs.WordsStand.{OwnersStand, PageStands, epoch_in, answered_in, maps_of}
+use Rattle.cove_model.specs.Translations.{tlb}
+use Rattle.cove_model.specs.WordsStand.{FencesWithin, OwnersStand, PageStands, epoch_in, answered_in, maps_of}
 
 -- ---- what words that stand say of a page that a hart may use
 
@@ -83,37 +86,37 @@ module _ (script : ScriptValue) (history : List Entry) (old now : List ℕ) (tab
   store_bounded : AreBounded script.pages script.harts (set now place word)
   store_bounded = record {
     within = stores_keep_answers script.pages script.harts tables hart old now place word part.size bounded.within lawful;
-    epoch = stores_keep_epoch script.pages script.harts tables hart old now place word part.size bounded.epoch lawful;
+    fences = stores_keep_fences script.pages script.harts tables hart old now place word part.size bounded.fences lawful;
   }
 
   -- a page that had no pending store was the host's after the last entry
-  old_host : (h p : ℕ) → p < script.pages → get_or old p 0 ≡ host 0 → WasHost script history h p
+  old_host : (h : ℕ) (p : Page) → p.0 < script.pages → get_or old p.0 0 ≡ host 0 → WasFound script history h (targets.Host p)
   old_host h p below was =
-      was_now script history h p ((words_tell_host script.pages script.harts old (after script history) p below part.stands.owners).1 (0, was))
+      was_now script history h (targets.Host p) ((words_tell_host script.pages script.harts old (after script history) p.0 below part.stands.owners).1 (0, was))
 
   store_walk : (h : ℕ) (target : Target) (w : Walked) → WalkLives script history now h target w → WalkLives script history (set now place word) h target w
   store_walk h (targets.Host p) (walks.Found page) lives =
       let next = ⊎_elim
-      (λ is. ⊎_elim inl (λ was. inr (old_host h p.0 lives.1 was)) (stores_keep_host script.pages script.harts tables hart old now place word p.0 part.size lives.1 lawful is))
+      (λ is. ⊎_elim inl (λ was. inr (old_host h p lives.1 was)) (stores_keep_host script.pages script.harts tables hart old now place word p.0 part.size lives.1 lawful is))
       inr
       lives.2 in
       (lives.0, lives.1, next)
-  store_walk h (targets.Host p) (walks.Missing w) lives = tt
-  store_walk h (targets.Fetch g) w lives = absurd lives
-  store_walk h (targets.Access g) w lives = absurd lives
+  store_walk h (targets.Fetch g) (walks.Found page) lives = lives
+  store_walk h (targets.Access g) (walks.Found page) lives = lives
+  store_walk h target (walks.Missing w) lives = tt
 
   store_unused : (h : ℕ) (noted : Option Noted) → UnusedLives script history now h noted → UnusedLives script history (set now place word) h noted
   store_unused h None lives = tt
   store_unused h (Some noted) lives = store_walk h noted.target noted.walked lives
 
-  store_live : (other : HartValue) → other.hart ≢ hart → IsLive script history now other → IsLive script history (set now place word) other
+  store_live : (other : Holding) → other.hart ≢ hart → IsLive script history now other → IsLive script history (set now place word) other
   store_live other ne live = record {
     on_board = live.on_board;
     usable = λ p named.
         let was = live.usable p named in
         (was.0, stores_keep_usable script.pages script.harts tables hart other.hart old now place word p part.size bounded.within live.on_board ne was.0 lawful was.1);
     walk = store_unused other.hart other.walked live.walk;
-    ring = live.ring;
+    rings = live.rings;
   }
 
 pub stores_keep_rule : StoresKeepRule
@@ -122,7 +125,7 @@ stores_keep_rule script history old now tables hart place word part bounded lawf
 
 -- ---- a list of them
 
-lists_from : (script : ScriptValue) (history : List Entry) (old : List ℕ) (tables : ℕ → Tables) (hart : ℕ) (ss : List (ℕ × ℕ)) (now : List ℕ) → IsMonitored script history old now → AreBounded script.pages script.harts now → AllAllowed (IsLawful script.pages script.harts tables hart old) now ss → IsMonitored script history old (stored now ss) × AreBounded script.pages script.harts (stored now ss) × ((other : HartValue) → other.hart ≢ hart → IsLive script history now other → IsLive script history (stored now ss) other)
+lists_from : (script : ScriptValue) (history : List Entry) (old : List ℕ) (tables : ℕ → Tables) (hart : ℕ) (ss : List (ℕ × ℕ)) (now : List ℕ) → IsMonitored script history old now → AreBounded script.pages script.harts now → AllAllowed (IsLawful script.pages script.harts tables hart old) now ss → IsMonitored script history old (stored now ss) × AreBounded script.pages script.harts (stored now ss) × ((other : Holding) → other.hart ≢ hart → IsLive script history now other → IsLive script history (stored now ss) other)
 lists_from script history old tables hart [] now part bounded all = (part, bounded, λ other ne live. live)
 lists_from script history old tables hart (s ∷ ss) now part bounded all =
     let one = stores_keep_rule script history old now tables hart s.0 s.1 part bounded all.0 in
@@ -143,10 +146,20 @@ module _ (script : ScriptValue) (history : List Entry) (old now : List ℕ) (har
   abbrev after_count : List ℕ
   after_count = set now (count_word script.pages script.harts) (get_or now (count_word script.pages script.harts) 0 + 1)
 
+  kept_at : (at : ℕ) → at ≢ count_word script.pages script.harts → get_or after_count at 0 ≡ get_or now at 0
+  kept_at at apart = get_or-set_other now (count_word script.pages script.harts) at one_more 0 apart
+
   epoch_stays : epoch_in script.pages after_count ≡ epoch_in script.pages now
-  epoch_stays =
-      let apart : epoch_word script.pages ≢ count_word script.pages script.harts = omega arith in
-      get_or-set_other now (count_word script.pages script.harts) (epoch_word script.pages) one_more 0 apart
+  epoch_stays = let apart : epoch_word script.pages ≢ count_word script.pages script.harts = omega arith in kept_at (epoch_word script.pages) apart
+
+  -- the count is no number of a fence
+  fences_stay : (most : ℕ) → FencesWithin script.pages script.harts now most → FencesWithin script.pages script.harts after_count most
+  fences_stay most fences = record {
+    epoch = subst (λ n. n ≤ most) (sym epoch_stays) fences.epoch;
+    numbers = λ t low high.
+        let apart : tvm_word script.pages script.harts t ≢ count_word script.pages script.harts = omega arith in
+        subst (λ n. n ≤ most) (sym (kept_at (tvm_word script.pages script.harts t) apart)) (fences.numbers t low high);
+  }
 
   answer_stays : (h : ℕ) → h < script.harts → answered_in script.pages after_count h ≡ answered_in script.pages now h
   answer_stays h on =
@@ -161,8 +174,6 @@ module _ (script : ScriptValue) (history : List Entry) (old now : List ℕ) (har
   count_monitored : IsMonitored script (history ++ entry ∷ []) after_count after_count
   count_monitored =
       let longer : length (history ++ entry ∷ []) ≡ length history + 1 = length_push history entry in
-      let few = countable.epoch in
-      let same = epoch_stays in
       let size : length now ≡ all_words script.pages script.harts = part.size in
       let inside : count_word script.pages script.harts < length now = omega arith in
       let legal_event = subst (λ h. Allows script (after script history) h entry.event) (sym countable.own) countable.allowed in
@@ -171,7 +182,7 @@ module _ (script : ScriptValue) (history : List Entry) (old now : List ℕ) (har
         legal = legal_push script history entry part.legal legal_event;
         cached = each_push (λ before e. IsReached script before e.hart.0 e.event) [] history entry part.cached reached_event;
         stands = (count_leaves_words script.pages script.harts now (after script (history ++ entry ∷ [])) one_more countable.stands).stands;
-        fences = omega arith;
+        fences = subst (FencesWithin script.pages script.harts after_count) (sym longer) (fences_stay (length history + 1) countable.fences);
         count = get_or-set_same now (count_word script.pages script.harts) one_more 0 inside ∙ ap (λ n. n + 1) part.count ∙ sym longer;
         size = length-set now (count_word script.pages script.harts) one_more ∙ size;
       }
@@ -183,19 +194,19 @@ module _ (script : ScriptValue) (history : List Entry) (old now : List ℕ) (har
         let number = answer_stays h on in
         let same = epoch_stays in
         omega arith;
-    epoch = let few = bounded.epoch in let same = epoch_stays in omega arith;
+    fences = fences_stay ENTRY_LIMIT bounded.fences;
   }
 
   count_walk : (h : ℕ) → (entry.hart.0 ≡ h → ⊥) → (target : Target) (w : Walked) → WalkLives script history now h target w → WalkLives script (history ++ entry ∷ []) after_count h target w
   count_walk h ne (targets.Host p) (walks.Found page) lives =
       let next = ⊎_elim
       (λ is. inl (subst IsHostWord (sym (page_stays p.0 lives.1)) is))
-      (λ was. inr (was_longer script history entry h p.0 ne was))
+      (λ was. inr (was_longer script history entry h (targets.Host p) ne was))
       lives.2 in
       (lives.0, lives.1, next)
-  count_walk h ne (targets.Host p) (walks.Missing w) lives = tt
-  count_walk h ne (targets.Fetch g) w lives = absurd lives
-  count_walk h ne (targets.Access g) w lives = absurd lives
+  count_walk h ne (targets.Fetch g) (walks.Found page) lives = led_longer script history entry h (targets.Fetch g) page ne lives
+  count_walk h ne (targets.Access g) (walks.Found page) lives = led_longer script history entry h (targets.Access g) page ne lives
+  count_walk h ne target (walks.Missing w) lives = tt
 
   count_unused : (h : ℕ) → (entry.hart.0 ≡ h → ⊥) → (noted : Option Noted) → UnusedLives script history now h noted → UnusedLives script (history ++ entry ∷ []) after_count h noted
   count_unused h ne None lives = tt
@@ -206,7 +217,7 @@ module _ (script : ScriptValue) (history : List Entry) (old now : List ℕ) (har
       subst (λ n. IsUsableWord n (get_or after_count p 0)) (sym (answer_stays h on))
       (subst (IsUsableWord (answered_in script.pages now h)) (sym (page_stays p below)) may)
 
-  count_live : (other : HartValue) → other.hart ≢ hart → IsLive script history now other → IsLive script (history ++ entry ∷ []) after_count other
+  count_live : (other : Holding) → other.hart ≢ hart → IsLive script history now other → IsLive script (history ++ entry ∷ []) after_count other
   count_live other ne live =
       let apart : entry.hart.0 ≡ other.hart → ⊥ = λ q. ne (sym q ∙ countable.own) in
       record {
@@ -215,7 +226,7 @@ module _ (script : ScriptValue) (history : List Entry) (old now : List ℕ) (har
             let was = live.usable p named in
             (was.0, count_usable other.hart p live.on_board was.0 was.1);
         walk = count_unused other.hart apart other.walked live.walk;
-        ring = live.ring ∙ ap (λ (t : Tlb). walked_ring (ring_of t.pages) other.walked) (sym (tlb_other script history entry other.hart apart));
+        rings = live.rings ∙ ap (λ t. walked_rings (rings_of t) other.walked) (sym (tlb_other script history entry other.hart apart));
       }
 
 pub counts_keep_rule : CountsKeepRule
@@ -229,29 +240,33 @@ module _ (script : ScriptValue) (limits : Limits script) (history : List Entry) 
   lives_in h p may = usable_in script.pages script.harts words (after script history) h p part.stands.owners may
 
   held_lives : (h p : ℕ) → has p (tlb script history h).pages ≡ true → (p < script.pages) × MayUse script.pages words h p
-  held_lives h p named = lives_in h p (usable script limits history part.legal h p named)
+  held_lives h p named = lives_in h p (holds_able (after script history) h (tlb script history h) (host_at p) (usable script limits history part.legal h) named)
 
-  found_lives : (h p : ℕ) → h < script.harts → WasHost script history h p → (p < script.pages) × MayUse script.pages words h p
-  found_lives h p on was = lives_in h p (held_since script history h p on was)
+  found_lives : (h : ℕ) (p : Page) → h < script.harts → WasFound script history h (targets.Host p) → (p.0 < script.pages) × MayUse script.pages words h p.0
+  found_lives h p on was = lives_in h p.0 (held_since script history h (targets.Host p) on was)
 
   walk_lives : (h : ℕ) → h < script.harts → (target : Target) (w : Walked) → WalkFits script history h target w → WalkLives script history words h target w
-  walk_lives h on (targets.Host q) (walks.Found page) fits = (fits.1, (found_lives h q.0 on fits.2).0, inr fits.2)
-  walk_lives h on (targets.Host q) (walks.Missing word) fits = tt
-  walk_lives h on (targets.Fetch g) w fits = absurd fits
-  walk_lives h on (targets.Access g) w fits = absurd fits
+  walk_lives h on (targets.Host q) (walks.Found page) fits =
+      (same_page page q fits.1.led, (found_lives h q on fits.1.was).0, inr fits.1.was)
+  walk_lives h on (targets.Fetch g) (walks.Found page) fits = fits.1
+  walk_lives h on (targets.Access g) (walks.Found page) fits = fits.1
+  walk_lives h on target (walks.Missing word) fits = tt
 
   unused_lives : (h : ℕ) → h < script.harts → (noted : Option Noted) → UnusedFits script history h noted → UnusedLives script history words h noted
   unused_lives h on None fits = tt
   unused_lives h on (Some noted) fits = walk_lives h on noted.target noted.walked fits
 
-  live_of : (held : HartValue) → Fits script history held → IsLive script history words held
+  found_there : (h p : ℕ) → h < script.harts → WasFound script history h (host_at p) → (p < script.pages) × MayUse script.pages words h p
+  found_there h p on was = found_lives h (record { 0 = p }) on was
+
+  live_of : (held : HartValue) → Fits script history held → IsLive script history words (holding held)
   live_of held fits = record {
     on_board = fits.on_board;
     usable = λ p named.
-        ⊎_elim (held_lives held.hart p) (found_lives held.hart p fits.on_board)
-        (ring_cases script history held.hart p held.hosts held.walked fits.walk fits.ring named);
+        ⊎_elim (held_lives held.hart p) (found_there held.hart p fits.on_board)
+        (ring_cases script history held.hart p held.rings held.walked fits.walk fits.rings named);
     walk = unused_lives held.hart fits.on_board held.walked fits.walk;
-    ring = fits.ring;
+    rings = fits.rings;
   }
 
 pub fitting_harts_use : FittingHartsUse
@@ -259,7 +274,7 @@ fitting_harts_use script history words held p within part fits named =
     let limits = limits_of script within in
     ⊎_elim
     (λ ring. (live_of script limits history words part held fits).usable p ring)
-    (λ walk. found_lives script limits history words part held.hart p fits.on_board (walk_was_host script history held.hart p held.walked fits.walk walk))
+    (λ walk. found_there script limits history words part held.hart p fits.on_board (walk_was_found script history held.hart p held.walked fits.walk walk))
     named
 
 pub fitting_harts_live : FittingHartsLive
@@ -269,6 +284,6 @@ pub live_walks_were_right : LiveWalksWereRight
 live_walks_were_right script history words held p page part live walked =
     let lives = subst (UnusedLives script history words held.hart) walked live.walk in
     ⊎_elim
-    (λ is. was_now script history held.hart p.0 ((words_tell_host script.pages script.harts words (after script history) p.0 lives.1 part.stands.owners).1 is))
+    (λ is. was_now script history held.hart (targets.Host p) ((words_tell_host script.pages script.harts words (after script history) p.0 lives.1 part.stands.owners).1 is))
     (λ was. was)
     lives.2

@@ -5,11 +5,12 @@ use Rattle.std.proofs.lemmas.Option.{none-some, same_Some}
 use Rattle.std.specs.List.{AllByRecursion}
 use Rattle.cove_base.specs.Statuses.{is_success}
 use Rattle.cove_base.specs.declared.calls.HostCall.{HostCall}
-use Rattle.cove_base.specs.declared.calls.HostCall.TheVariants.{Convert, GlobalFence, LocalFence, Reclaim}
+use Rattle.cove_base.specs.declared.calls.HostCall.TheVariants.{Convert, GlobalFence, LocalFence, Reclaim, Create, Region, Tables, Measured, Vcpu, Finalize, Zero, Shared, Run, Invalidate, TvmFence, Validate, Remove, Destroy, Kick, Info, Bind, Unbind, Unbound, Inject}
 use Rattle.cove_base.specs.declared.statuses.Reply.{Reply}
 use Rattle.cove_base.specs.declared.statuses.Status.TheVariants.{Success}
-use Rattle.cove_model.specs.Effects.{effect, outcome, refusal, reply_to, rule_of, state_after, state_by, value_of}
-use Rattle.cove_model.specs.FirstChecks.{AllPassed, FailsFirst, refusal_by}
+use Rattle.cove_model.specs.HostCalls.{rule}
+use Rattle.cove_model.specs.Answers.{effect, outcome, refusal, reply_to, rule_of, state_after, state_by, value_of}
+use Rattle.cove_model.specs.FirstChecks.{AllPassed, FailsFirst, reply_of}
 use Rattle.cove_model.specs.Refusals.{Check, first_failing}
 use Rattle.cove_model.specs.States.{State}
 
@@ -45,13 +46,13 @@ first_once checks i j check other first second = go checks i j first.stands firs
         let rest = go xs i j at earlier.1 at' earlier'.1 in (ap suc rest.0, rest.1)
 
 -- the first check that fails answers
-first_answers : (checks : List Check) (i : ℕ) (check : Check) → FailsFirst checks i check → first_failing checks ≡ Some (refusal_by check)
+first_answers : (checks : List Check) (i : ℕ) (check : Check) → FailsFirst checks i check → first_failing checks ≡ Some (reply_of check)
 first_answers checks i check first = go checks i first.stands first.earlier
   where
-    go : (checks : List Check) (i : ℕ) → slice_get checks i ≡ Some check → AllPassed (take i checks) → first_failing checks ≡ Some (refusal_by check)
+    go : (checks : List Check) (i : ℕ) → slice_get checks i ≡ Some check → AllPassed (take i checks) → first_failing checks ≡ Some (reply_of check)
     go [] i at earlier = absurd (none-some _ at)
     go (x ∷ xs) zero at earlier =
-        cond-true x.fails _ (first_failing xs) (ap (λ c. c.fails) (same_Some x check at) ∙ first.fails) ∙ ap (λ c. Some (refusal_by c)) (same_Some x check at)
+        cond-true x.fails _ (first_failing xs) (ap (λ c. c.fails) (same_Some x check at) ∙ first.fails) ∙ ap (λ c. Some (reply_of c)) (same_Some x check at)
     go (x ∷ xs) (suc i) at earlier = cond-false x.fails _ (first_failing xs) earlier.0 ∙ go xs i at earlier.1
 
 -- where every check passes, none answers
@@ -59,25 +60,47 @@ passed_answers : (checks : List Check) → AllPassed checks → first_failing ch
 passed_answers [] passed = refl
 passed_answers (x ∷ xs) passed = cond-false x.fails _ (first_failing xs) passed.0 ∙ passed_answers xs passed.1
 
-pub refused_by_first : (S : State) (hart : ℕ) (call : HostCall) (i : ℕ) (check : Check) → FailsFirst ((rule_of call).checks S hart) i check → (reply_to S hart call ≡ refusal_by check) × (state_after S hart call ≡ S)
+pub refused_by_first : (S : State) (hart : ℕ) (call : HostCall) (i : ℕ) (check : Check) → FailsFirst ((rule_of S hart call).checks) i check → (reply_to S hart call ≡ reply_of check) × (state_after S hart call ≡ S)
 refused_by_first S hart call i check first =
-    let e : refusal S hart call ≡ Some (refusal_by check) = first_answers ((rule_of call).checks S hart) i check first in
+    let e : refusal S hart call ≡ Some (reply_of check) = first_answers ((rule_of S hart call).checks) i check first in
     let success : Reply = record { status = Success; value = value_of S hart call } in
     (ap (λ o. unwrap_or o success) e, ap (λ o. state_by o S (effect S hart call)) e)
 
-pub accepted_by_all : (S : State) (hart : ℕ) (call : HostCall) → AllPassed ((rule_of call).checks S hart) → (reply_to S hart call ≡ record { status = Success; value = (outcome S hart call).value }) × (state_after S hart call ≡ (outcome S hart call).state)
+pub accepted_by_all : (S : State) (hart : ℕ) (call : HostCall) → AllPassed ((rule_of S hart call).checks) → (reply_to S hart call ≡ record { status = Success; value = (outcome S hart call).value }) × (state_after S hart call ≡ (outcome S hart call).state)
 accepted_by_all S hart call passed =
-    let e : refusal S hart call ≡ None = passed_answers ((rule_of call).checks S hart) passed in
+    let e : refusal S hart call ≡ None = passed_answers ((rule_of S hart call).checks) passed in
     let success : Reply = record { status = Success; value = value_of S hart call } in
     (ap (λ o. unwrap_or o success) e, ap (λ o. state_by o S (effect S hart call)) e)
 
 -- no check answers success
-never_success : (S : State) (hart : ℕ) (call : HostCall) → AllByRecursion (λ check. is_success check.status ≡ false) ((rule_of call).checks S hart)
-never_success S hart (Convert base n) = (refl, (refl, (refl, (refl, (refl, tt)))))
-never_success S hart GlobalFence = (refl, tt)
-never_success S hart LocalFence = tt
-never_success S hart (Reclaim base n) = (refl, (refl, (refl, (refl, tt))))
-never_success S hart _ = (refl, tt)
+never_success : (S : State) (hart : ℕ) (call : HostCall) → AllByRecursion (λ check. is_success check.status ≡ false) (rule_of S hart call).checks
+never_success S hart call = (refl, of_row call)
+  where
+    of_row : (c : HostCall) → AllByRecursion (λ check. is_success check.status ≡ false) (rule S hart c).checks
+    of_row (Convert base n) = (refl, (refl, (refl, (refl, (refl, tt)))))
+    of_row GlobalFence = (refl, tt)
+    of_row LocalFence = tt
+    of_row (Reclaim base n) = (refl, (refl, (refl, (refl, tt))))
+    of_row (Create root state) = (refl, (refl, (refl, (refl, (refl, (refl, (refl, (refl, tt))))))))
+    of_row (Region t gpa len) = (refl, (refl, (refl, (refl, (refl, (refl, (refl, tt)))))))
+    of_row (Tables t base n) = (refl, (refl, (refl, (refl, (refl, tt)))))
+    of_row (Measured t src dst n gpa) = (refl, (refl, (refl, (refl, (refl, (refl, (refl, (refl, (refl, (refl, (refl, (refl, (refl, tt)))))))))))))
+    of_row (Vcpu t v state) = (refl, (refl, (refl, (refl, (refl, (refl, (refl, tt)))))))
+    of_row (Finalize t pc arg) = (refl, (refl, (refl, (refl, tt))))
+    of_row (Zero t base n gpa) = (refl, (refl, (refl, (refl, (refl, (refl, (refl, (refl, (refl, (refl, tt))))))))))
+    of_row (Shared t base n gpa) = (refl, (refl, (refl, (refl, (refl, (refl, (refl, (refl, (refl, (refl, tt))))))))))
+    of_row (Run t v fuel) = (refl, (refl, (refl, (refl, (refl, (refl, (refl, (refl, tt))))))))
+    of_row (Invalidate t gpa n) = (refl, (refl, (refl, (refl, (refl, tt)))))
+    of_row (TvmFence t) = (refl, (refl, (refl, tt)))
+    of_row (Validate t gpa n) = (refl, (refl, (refl, (refl, (refl, (refl, tt))))))
+    of_row (Remove t gpa n) = (refl, (refl, (refl, (refl, (refl, (refl, tt))))))
+    of_row (Destroy t) = (refl, (refl, tt))
+    of_row (Kick h) = (refl, tt)
+    of_row Info = tt
+    of_row (Bind t v h file) = (refl, (refl, (refl, (refl, (refl, (refl, (refl, tt)))))))
+    of_row (Unbind t v) = (refl, (refl, (refl, (refl, tt))))
+    of_row (Unbound t v) = (refl, (refl, (refl, (refl, tt))))
+    of_row (Inject t v id) = (refl, (refl, (refl, (refl, tt))))
 
 found_fact : (P : Check → Type 0) (checks : List Check) (i : ℕ) (check : Check) → slice_get checks i ≡ Some check → AllByRecursion P checks → P check
 found_fact P [] i check at all = absurd (none-some _ at)
@@ -85,13 +108,13 @@ found_fact P (x ∷ xs) zero check at all = subst P (same_Some x check at) all.0
 found_fact P (x ∷ xs) (suc i) check at all = found_fact P xs i check at all.1
 
 -- success is answered exactly where every check passes
-pub success_by_all : (S : State) (hart : ℕ) (call : HostCall) → ((reply_to S hart call).status ≡ Success) ↔ AllPassed ((rule_of call).checks S hart)
-success_by_all S hart call = (passes (first_or_passed ((rule_of call).checks S hart)), λ passed. ap (λ r. r.status) (accepted_by_all S hart call passed).0)
+pub success_by_all : (S : State) (hart : ℕ) (call : HostCall) → ((reply_to S hart call).status ≡ Success) ↔ AllPassed ((rule_of S hart call).checks)
+success_by_all S hart call = (passes (first_or_passed ((rule_of S hart call).checks)), λ passed. ap (λ r. r.status) (accepted_by_all S hart call passed).0)
   where
-    passes : ((i : ℕ) × ((check : Check) × FailsFirst ((rule_of call).checks S hart) i check)) ⊎ AllPassed ((rule_of call).checks S hart) → (reply_to S hart call).status ≡ Success → AllPassed ((rule_of call).checks S hart)
+    passes : ((i : ℕ) × ((check : Check) × FailsFirst ((rule_of S hart call).checks) i check)) ⊎ AllPassed ((rule_of S hart call).checks) → (reply_to S hart call).status ≡ Success → AllPassed ((rule_of S hart call).checks)
     passes (inr passed) e = passed
     passes (inl first) e =
         let check = first.1.0 in
-        let not = found_fact (λ c. is_success c.status ≡ false) ((rule_of call).checks S hart) first.0 check first.1.1.stands (never_success S hart call) in
+        let not = found_fact (λ c. is_success c.status ≡ false) ((rule_of S hart call).checks) first.0 check first.1.1.stands (never_success S hart call) in
         let is : check.status ≡ Success = sym (ap (λ r. r.status) (refused_by_first S hart call first.0 check first.1.1).0) ∙ e in
         absurd (true≢false (sym (ap is_success is) ∙ not))

@@ -7,17 +7,21 @@ use Rattle.cove_base.specs.declared.events.Entry.{Entry}
 use Rattle.cove_base.specs.declared.events.Event.{Event}
 use Rattle.cove_base.specs.declared.events.Event.TheVariants.{Load}
 use Rattle.cove_base.specs.declared.events.How.{How}
-use Rattle.cove_model.proofs.AtTheEnd.{legal_at}
-use Rattle.cove_model.proofs.Soundness.{Move, Same, Converts, Reclaims, Stores, Fences, Responds, board_of, moves, sound}
+use Rattle.cove_model.proofs.AtTheEnd.{legal_at, line_pages}
+use Rattle.cove_model.proofs.Boards.{board_of}
+use Rattle.cove_model.proofs.EventMoves.{moves}
+use Rattle.cove_model.proofs.Histories.{sound}
+use Rattle.cove_model.proofs.Loads.{load_told}
+use Rattle.cove_model.proofs.Moves.{Move, Same, Converts, Reclaims, Stores, Fences, Responds, Gives, Returns}
 use Rattle.cove_model.specs.Histories.{Legal, after}
 use Rattle.cove_model.specs.HostMemory.{host_memory, host_word, seen_words}
 use Rattle.cove_model.specs.Owners.{Owner, Host, Converting, Free, Given, Purpose, fence_answered, converted, fenced, may_use, page_at, reclaimed, without, word_stored, words_of, zeros}
 use Rattle.cove_model.specs.Sound.{IsSoundPage}
 use Rattle.cove_model.specs.States.{State, harts_below, page_of, word_place}
-use Rattle.cove_model.specs.Steps.{Answers, after_event, done}
+use Rattle.cove_model.specs.Steps.{Allows, after_event, done}
 
 -- a page that a hart may use has this word
-seen_word : (S : State) (hart place value : ℕ) (owner : Owner) → place < 512 → IsSoundPage S owner → may_use hart owner ≡ true → value ≡ slice_index (words_of owner) place → option_and_then (λ words. slice_get words place) (seen_words owner) ≡ Some value
+seen_word : (S : State) (hart place value : ℕ) (owner : Owner) → place < 512 → IsSoundPage S.harts S.unanswered owner → may_use hart owner ≡ true → value ≡ slice_index (words_of owner) place → option_and_then (λ words. slice_get words place) (seen_words owner) ≡ Some value
 seen_word S hart place value (Host words) within sound use' is = slice_get-get_or words place 0 (omega (arith, sound)) ∙ ap (λ v. Some v) (sym is)
 seen_word S hart place value (Converting held None words) within sound use' is = slice_get-get_or words place 0 (omega (arith, sound.0)) ∙ ap (λ v. Some v) (sym is)
 seen_word S hart place value (Converting held (Some waiting) words) within sound use' is = slice_get-get_or words place 0 (omega (arith, sound.0)) ∙ ap (λ v. Some v) (sym is)
@@ -28,11 +32,11 @@ seen_word S hart place value (Given tvm purpose) within sound use' is = absurd (
 pub load_shows : (script : ScriptValue) (before rest : List Entry) (entry : Entry) (addr : ℕ) (how : How) (value : ℕ) → Legal script (before ++ entry ∷ rest) → entry.event ≡ Load addr how value → host_word (after script before) addr ≡ Some value
 load_shows script before rest entry addr how value legal is =
     let S = after script before in
-    let P : Event → Type 0 = λ event. Answers S entry.hart.0 event in
-    let answers = subst P is (legal_at script before entry rest legal).1 in
-    seen_word S entry.hart.0 (word_place addr) value (page_at S.pages (page_of addr)) (omega arith) ((sound script before).pages_sound (page_of addr)) answers.0 answers.1
+    let P : Event → Type 0 = λ event. Allows script S entry.hart.0 event in
+    let told = load_told script S entry.hart.0 addr how value (subst P is (legal_at script before entry rest legal)) in
+    seen_word S entry.hart.0 (word_place addr) value (page_at S.pages (page_of addr)) (omega arith) ((sound script before).pages_sound (page_of addr)) told.0 told.1
 
-words_of_sound : (S : State) (owner : Owner) (words : List ℕ) → IsSoundPage S owner → seen_words owner ≡ Some words → length words ≡ 512
+words_of_sound : (S : State) (owner : Owner) (words : List ℕ) → IsSoundPage S.harts S.unanswered owner → seen_words owner ≡ Some words → length words ≡ 512
 words_of_sound S (Host ws) words sound e = sym (ap length (same_Some ws words e)) ∙ sound
 words_of_sound S (Converting held None ws) words sound e = sym (ap length (same_Some ws words e)) ∙ sound.0
 words_of_sound S (Converting held (Some waiting) ws) words sound e = sym (ap length (same_Some ws words e)) ∙ sound.0
@@ -77,8 +81,12 @@ returned_move S T h old new words move none some = go move
     go (Stores place value u e) = never (word_stored place value old) e (still (word_stored place value) refl (λ tvm purpose. refl) old none)
     go (Fences f u e) = never (fenced h (without h (harts_below S.harts)) old) e (still (fenced h (without h (harts_below S.harts))) refl (λ tvm purpose. refl) old none)
     go (Responds u e) = never (fence_answered h old) e (still (fence_answered h) refl (λ tvm purpose. refl) old none)
+    go (Gives t purpose u was e) = never (Given t purpose) e refl
+    go (Returns t purpose u was e) = never Free e refl
 
 -- a page that comes to the host has zeros
 pub returned_zeros : (S : State) (hart : ℕ) (event : Event) (p : ℕ) (words : List ℕ) → host_memory S p ≡ None → host_memory (after_event S hart event) p ≡ Some words → words ≡ zeros
-returned_zeros S hart event p words =
-    returned_move S (done S hart event) hart (page_at S.pages p) (page_at (done S hart event).pages p) words (moves S hart event p)
+returned_zeros S hart event p words none some =
+    let D = done S hart event in
+    returned_move S D hart (page_at S.pages p) (page_at D.pages p) words (moves S hart event p) none
+    (ap (λ pages. seen_words (page_at pages p)) (sym (line_pages hart (D.seats hart) D)) ∙ some)

@@ -1,10 +1,8 @@
 -- Numbers in lists.
-use Rattle.cove_base.specs.declared.events.How.{How}
-use Rattle.cove_base.specs.declared.events.How.TheVariants.{Hit, Walk}
 use Rattle.cove_model.specs.Owners.{has, without}
 use Rattle.cove_model.specs.Sound.{Rises}
 use Rattle.cove_model.specs.States.{harts_below}
-use Rattle.cove_model.specs.Tlbs.{pages_filled}
+use Rattle.cove_model.specs.Translations.{filled}
 use Rattle.std.proofs.Common.{Bool, List, [], arith, cond, drop, eq-eqb, eqb, eqb-true, false, inl, inr, length, not, refl, suc, sym, true, zero, ℕ, ⊎_elim, ◌++◌, ◌+◌, ◌-◌, ◌<◌, ◌||◌, ◌∙◌, ◌∷◌, ◌≡◌, ◌≤◌, ◌⊎◌}
 use Rattle.std.proofs.lemmas.Bool.{cases_eq, cond_both, or_cases, or_from, or_left, or_right}
 use Rattle.std.specs.List.{AllByRecursion, range_with_len}
@@ -73,9 +71,8 @@ has_drop n (suc k) [] e = e
 has_drop n (suc k) (x ∷ xs) e = or_right (eqb x n) (has n xs) (has_drop n k xs e)
 
 -- a walk adds its page alone
-pub has_filled : (how : How) (n p : ℕ) (ps : List ℕ) → has n (pages_filled how p ps) ≡ true → (has n ps ≡ true) ⊎ (p ≡ n)
-has_filled Hit n p ps e = inl e
-has_filled Walk n p ps e = ⊎_elim inl
+pub has_filled : (n p : ℕ) (ps : List ℕ) → has n (filled ps p) ≡ true → (has n ps ≡ true) ⊎ (p ≡ n)
+has_filled n p ps e = ⊎_elim inl
     (λ there. inr (⊎_elim (λ here. eqb-true p n here) false-true (or_cases (eqb p n) false there)))
     (has_append n ps (p ∷ []) (has_drop n (length (ps ++ p ∷ []) - 4) (ps ++ p ∷ []) e))
 

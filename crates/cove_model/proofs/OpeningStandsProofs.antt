@@ -30,7 +30,7 @@ opening_stands script =
         };
         tables = λ p i within small e. get_or-zeros n (table_word script.pages p i);
         unused = get_or-zeros n (tvm_word script.pages script.harts 0);
-        outside = λ hart on. get_or-zeros n (hart_word script.pages script.harts hart);
+        seats = λ hart on. get_or-zeros n (hart_word script.pages script.harts hart);
       };
       within = λ hart on. let number : answered_in script.pages words hart ≡ 0 = get_or-zeros n (answered_word script.pages hart) in omega arith;
     }

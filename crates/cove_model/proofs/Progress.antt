@@ -1,88 +1,26 @@
 -- Turns get on: every script is played to its end, or to the limit.
+use Rattle.std.proofs.Common.{◌≡◌, ◌≢◌, ℕ, zero, suc, ◌+◌, ◌*◌, ◌^◌, ◌<◌, ◌≤◌, Bool, true, false, cond, nat_lt, ltb-true, lt-ltb, fold, length, List, [], ◌∷◌, Option, Some, None, refl, sym, ap, subst, ◌∙◌, inl, inr, ◌⊎◌, ⊎_elim, arith}
+use Rattle.std.specs.List.{AllByRecursion, range_with_len}
+use Rattle.std.proofs.lemmas.Bool.{cases_eq, cases_lt, cond-true, cond_both}
+use Rattle.std.proofs.lemmas.List.{length_push}
 use Rattle.cove_base.specs.HartLines.{next_line}
 use Rattle.cove_base.specs.Scripts.{ScriptValue}
 use Rattle.cove_base.specs.declared.events.Event.{Event}
 use Rattle.cove_base.specs.declared.events.How.{How}
 use Rattle.cove_base.specs.declared.scripts.Line.{Line}
-use Rattle.cove_base.specs.declared.scripts.ScriptLine.{ScriptLine}
-use Rattle.cove_model.proofs.Beginning.{offered}
-use Rattle.cove_model.proofs.Members.{below_has, false-true}
-use Rattle.cove_model.proofs.Playing.{ChoiceFacts, choice_facts, noted_other, noted_same, rounds_stay, turn_full, turn_open}
-use Rattle.cove_model.specs.Effects.{reply_to}
-use Rattle.cove_model.specs.Histories.{after}
-use Rattle.cove_model.specs.Offers.{Behind, Next, Nothing, Offer, first_behind, is_behind, is_earlier, offer}
-use Rattle.cove_model.specs.Owners.{has, is_host, page_at}
-use Rattle.cove_model.specs.Played.{Choice, Faults, Found, IsEnded, Missing, Note, Play, Succeeds, Unwalked, Walks, access_turn, choice_at, enough, entered, entry_by, line_turn, noted, offer_turn, played, round, rounds, turn, unplayed, walked}
-use Rattle.cove_model.specs.States.{State, ended_by, harts_below, page_of, word_at}
-use Rattle.cove_model.specs.Tlbs.{tlb}
-use Rattle.std.proofs.Common.{Bool, List, None, Option, Some, [], ap, arith, cond, eq-eqb, eqb, false, find, fold, inl, inr, length, ltb-true, nat_lt, refl, subst, suc, sym, true, zero, ℕ, ⊎_elim, ◌*◌, ◌+◌, ◌<◌, ◌||◌, ◌∙◌, ◌∷◌, ◌≡◌, ◌≢◌, ◌≤◌, ◌⊎◌}
-use Rattle.std.proofs.lemmas.Bool.{cases_eq, cases_lt, cond_both, or_left, or_right}
-use Rattle.std.proofs.lemmas.List.{length_push}
-use Rattle.std.proofs.lemmas.Option.{same_Some}
-use Rattle.std.specs.List.{AllByRecursion, range_with_len}
-use Rattle.cove_base.specs.declared.events.Event.TheVariants as events
 use Rattle.cove_base.specs.declared.scripts.Line.TheVariants as lines
-
--- ---- sums over the harts
-
-unfoldable pub sum_below : (ℕ → ℕ) → ℕ → ℕ
-sum_below f zero = 0
-sum_below f (suc n) = f n + sum_below f n
-
-pub sum_same : (f g : ℕ → ℕ) (n : ℕ) → ((k : ℕ) → k < n → g k ≡ f k) → sum_below g n ≡ sum_below f n
-unfolding sum_below
-sum_same f g zero e = refl
-sum_same f g (suc n) e =
-    let here = e n (omega arith) in
-    let rest = sum_same f g n (λ k lt. e k (omega arith)) in
-    omega arith
-
-pub sum_changed : (f g : ℕ → ℕ) (h n : ℕ) → h < n → ((k : ℕ) → (k ≡ h → ⊥) → g k ≡ f k) → sum_below g n + f h ≡ sum_below f n + g h
-unfolding sum_below
-sum_changed f g h zero lt e = absurd (omega arith)
-sum_changed f g h (suc n) lt e = go (cases_eq n h) (λ l. sum_changed f g h n l e)
-  where
-    nearer : (m k : ℕ) → (m ≡ k → ⊥) → k < suc m → k < m
-    nearer m k ne l = let ne' : m ≢ k = ne in omega arith
-
-    go : (n ≡ h) ⊎ (n ≡ h → ⊥) → (h < n → sum_below g n + f h ≡ sum_below f n + g h) → (g n + sum_below g n) + f h ≡ (f n + sum_below f n) + g h
-    go (inl q) more =
-        let rest = sum_same f g n (λ k l. e k (λ s. let s' = s in omega arith)) in
-        let gq = ap g q in
-        let fq = ap f q in
-        omega arith
-    go (inr ne) more =
-        let here = e n ne in
-        let rest = more (nearer n h ne lt) in
-        omega arith
-
-pub sum_le : (f g : ℕ → ℕ) (n : ℕ) → ((k : ℕ) → k < n → f k ≤ g k) → sum_below f n ≤ sum_below g n
-unfolding sum_below
-sum_le f g zero le = omega arith
-sum_le f g (suc n) le =
-    let here = le n (omega arith) in
-    let rest = sum_le f g n (λ k lt. le k (omega arith)) in
-    omega arith
-
--- sums that are equal, term by term at most, are equal term by term
-pub sum_exact : (f g : ℕ → ℕ) (n : ℕ) → ((k : ℕ) → k < n → f k ≤ g k) → sum_below g n ≤ sum_below f n → (k : ℕ) → k < n → g k ≤ f k
-unfolding sum_below
-sum_exact f g zero le all k lt = absurd (omega arith)
-sum_exact f g (suc n) le all k lt = go (cases_eq k n) (λ l. sum_exact f g n (λ j q. le j (omega arith)) (less (le n (omega arith)) all) k l)
-  where
-    less : f n ≤ g n → g n + sum_below g n ≤ f n + sum_below f n → sum_below g n ≤ sum_below f n
-    less here all' = omega arith
-
-    front : sum_below f n ≤ sum_below g n
-    front = sum_le f g n (λ j q. le j (omega arith))
-
-    go : (k ≡ n) ⊎ (k ≡ n → ⊥) → (k < n → g k ≤ f k) → g k ≤ f k
-    go (inl q) more =
-        let here = front in
-        let gq = ap g q in
-        let fq = ap f q in
-        omega arith
-    go (inr ne) more = let ne' : k ≢ n = ne in more (omega arith)
+use Rattle.cove_base.specs.declared.scripts.ScriptLine.{ScriptLine}
+use Rattle.cove_base.specs.declared.walks.Target.{Target}
+use Rattle.cove_model.proofs.Members.{below_has, false-true}
+use Rattle.cove_model.proofs.Sums.{find_some, harts_are_below, sum_below, sum_changed}
+use Rattle.cove_model.specs.Owners.{has}
+use Rattle.cove_model.specs.States.{harts_below, Seat, State, ended_by}
+use Rattle.cove_model.proofs.Playing.{noted_other, noted_same, rounds_stay, turn_full}
+use Rattle.cove_model.specs.Deeds.{Deed, Tires, Fetches, Executes, Loads, Stores, Asks, Waits, Traps, deed_of}
+use Rattle.cove_model.specs.Histories.{after}
+use Rattle.cove_model.specs.Offers.{Offer, Nothing, Behind, Single, Touch, access_target, cpu_of, deed_offer, fault_exit, fetch_target, first_behind, guest_touch, is_behind, is_earlier, is_found, kicked_offer, line_offer, offer, outside_offer, sought, unkicked_offer, unless_behind}
+use Rattle.cove_model.specs.Played.{IsEnded, Note, Unwalked, Found, Missing, Play, ended_event, ending, enough, entered, entry_by, entry_turn, noted, played, round, rounds, sought_turn, turn, unplayed, walked, walks_first}
+use Rattle.cove_model.specs.Translations.{holds_target, tlb}
 
 -- ---- the measure: entries count twice, and a walk that isn't used yet once
 
@@ -136,30 +74,78 @@ walked_work script play h b lt none =
     let there = weight_found b in
     omega arith
 
-access_work : (script : ScriptValue) (play : Play) (h : ℕ) (success : How → Event) (fault : Event) (c : Choice) (holds host : Bool) → h < script.harts → ChoiceFacts c holds (play.notes h) host → work script play < work script (access_turn play h success fault c)
-access_work script play h success fault (Walks found) holds host lt facts = walked_work script play h found lt facts.1
-access_work script play h success fault (Succeeds how) holds host lt facts = entered_work script play h (success how) lt
-access_work script play h success fault Faults holds host lt facts = entered_work script play h fault lt
+-- ---- turns
 
-line_work : (script : ScriptValue) (play : Play) (S : State) (h : ℕ) (line : Line) → h < script.harts → work script play < work script (line_turn script play S h line)
-line_work script play S h (lines.Call call) lt = entered_work script play h (events.Call call (reply_to S h call)) lt
-line_work script play S h (lines.Load addr) lt = access_work script play h (λ how. events.Load addr how (word_at S addr)) (events.LoadFault addr) (choice_at script play S h addr) (has (page_of addr) (tlb script play.history h).pages) (is_host (page_at S.pages (page_of addr))) lt (choice_facts (has (page_of addr) (tlb script play.history h).pages) (play.notes h) (is_host (page_at S.pages (page_of addr))))
-line_work script play S h (lines.Store addr value) lt = access_work script play h (λ how. events.Store addr value how) (events.StoreFault addr value) (choice_at script play S h addr) (has (page_of addr) (tlb script play.history h).pages) (is_host (page_at S.pages (page_of addr))) lt (choice_facts (has (page_of addr) (tlb script play.history h).pages) (play.notes h) (is_host (page_at S.pages (page_of addr))))
+-- a hart makes its event or access now
+abbrev Moves : Offer → Type 0
+Moves Nothing = ⊥
+Moves (Behind other) = ⊥
+Moves (Single event) = Unit {0}
+Moves (Touch target success fault) = Unit {0}
 
-offer_work : (script : ScriptValue) (play : Play) (S : State) (h : ℕ) (o : Offer) → h < script.harts → (offer_turn script play S h o ≡ play) ⊎ (work script play < work script (offer_turn script play S h o))
-offer_work script play S h Nothing lt = inl refl
-offer_work script play S h (Behind k) lt = inl refl
-offer_work script play S h (Next line) lt = inr (line_work script play S h line lt)
+moves_or : (o : Offer) → Moves o ⊎ (Moves o → ⊥)
+moves_or Nothing = inr (λ m. m)
+moves_or (Behind k) = inr (λ m. m)
+moves_or (Single event) = inl tt
+moves_or (Touch target success fault) = inl tt
+
+module _ (script : ScriptValue) (play : Play) (h : ℕ) where
+  abbrev S : State
+  S = after script play.history
+
+  entry_work : (o : Offer) → h < script.harts → Moves o → work script play < work script (entry_turn script play S h o)
+  entry_work Nothing lt moves = absurd moves
+  entry_work (Behind k) lt moves = absurd moves
+  entry_work (Single event) lt moves = entered_work script play h event lt
+  entry_work (Touch target success fault) lt moves =
+      entered_work script play h (ended_event success fault (ending (holds_target (tlb script play.history h) target) (play.notes h) (is_found S h target))) lt
+
+  entry_still : (o : Offer) → (Moves o → ⊥) → entry_turn script play S h o ≡ play
+  entry_still Nothing not = refl
+  entry_still (Behind k) not = refl
+  entry_still (Single event) not = absurd (not tt)
+  entry_still (Touch target success fault) not = absurd (not tt)
+
+  first_unwalked : (holds : Bool) (note : Note) → walks_first holds note ≡ true → note ≡ Unwalked
+  first_unwalked true note e = cc
+  first_unwalked false Unwalked e = refl
+  first_unwalked false Found e = cc
+  first_unwalked false Missing e = cc
+
+  -- a turn of a hart that can go on is work, and of one that cannot none, or a walk
+  sought_work : (o : Offer) (t : Option Target) → h < script.harts → Moves o → work script play < work script (sought_turn script play S h o t)
+  sought_work o None lt moves = entry_work o lt moves
+  sought_work o (Some target) lt moves = cond_both (walks_first (holds_target (tlb script play.history h) target) (play.notes h)) (walked play h (is_found S h target)) (entry_turn script play S h o) (λ p. work script play < work script p)
+      (λ first. walked_work script play h (is_found S h target) lt (first_unwalked (holds_target (tlb script play.history h) target) (play.notes h) first))
+      (λ then. entry_work o lt moves)
+
+  sought_either : (o : Offer) (t : Option Target) → h < script.harts → (sought_turn script play S h o t ≡ play) ⊎ (work script play < work script (sought_turn script play S h o t))
+  sought_either o t lt = ⊎_elim (λ m. inr (sought_work o t lt m)) (λ not. go t not) (moves_or o)
+    where
+      go : (u : Option Target) → (Moves o → ⊥) → (sought_turn script play (after script play.history) h o u ≡ play) ⊎ (work script play < work script (sought_turn script play (after script play.history) h o u))
+      go None not = inl (entry_still o not)
+      go (Some target) not = cond_both (walks_first (holds_target (tlb script play.history h) target) (play.notes h)) (walked play h (is_found (after script play.history) h target)) (entry_turn script play (after script play.history) h o) (λ p. (p ≡ play) ⊎ (work script play < work script p))
+          (λ first. inr (walked_work script play h (is_found (after script play.history) h target) lt (first_unwalked (holds_target (tlb script play.history h) target) (play.notes h) first)))
+          (λ then. inl (entry_still o not))
+
+turn_open : (limit : ℕ) (script : ScriptValue) (play : Play) (h : ℕ) → length play.history < limit
+    → turn limit script play h ≡ sought_turn script play (after script play.history) h (offer script (after script play.history) h) (sought script (after script play.history) h)
+turn_open limit script play h room = cond-true (nat_lt (length play.history) limit) _ play (lt-ltb (length play.history) limit room)
 
 -- a turn changes nothing, or is work
 pub turn_work : (limit : ℕ) (script : ScriptValue) (play : Play) (h : ℕ) → h < script.harts → (turn limit script play h ≡ play) ⊎ (work script play < work script (turn limit script play h))
-turn_work limit script play h lt = ⊎_elim
-    (λ room.
-    let e = turn_open limit script play h room in
-    ⊎_elim (λ q. inl (e ∙ q)) (λ more. inr (subst (λ p. work script play < work script p) (sym e) more))
-    (offer_work script play (after script play.history) h (offer script (after script play.history) h) lt))
-    (λ full. inl (turn_full limit script play h full))
-    (cases_lt (length play.history) limit)
+turn_work limit script play h lt = go (cases_lt (length play.history) limit)
+  where
+    opened : Play
+    opened = sought_turn script play (after script play.history) h (offer script (after script play.history) h) (sought script (after script play.history) h)
+
+    moved : (p : Play) → turn limit script play h ≡ p → (p ≡ play) ⊎ (work script play < work script p) → (turn limit script play h ≡ play) ⊎ (work script play < work script (turn limit script play h))
+    moved p e (inl q) = inl (e ∙ q)
+    moved p e (inr more) = inr (subst (λ t. work script play < work script t) (sym e) more)
+
+    go : (length play.history < limit) ⊎ (limit ≤ length play.history) → (turn limit script play h ≡ play) ⊎ (work script play < work script (turn limit script play h))
+    go (inl room) = moved opened (turn_open limit script play h room) (sought_either script play h (offer script (after script play.history) h) (sought script (after script play.history) h) lt)
+    go (inr full) = inl (turn_full limit script play h full)
 
 -- turns one after another change nothing, each of them, or are work
 pub turns_work : (limit : ℕ) (script : ScriptValue) (hs : List ℕ) (play : Play) → AllByRecursion (λ h. h < script.harts) hs → (AllByRecursion (λ h. turn limit script play h ≡ play) hs × (fold (turn limit script) play hs ≡ play)) ⊎ (work script play < work script (fold (turn limit script) play hs))
@@ -178,38 +164,54 @@ turns_work limit script (h ∷ hs) play all = go (turn_work limit script play h 
     go (inr more) before' (inl same) = inr (subst (λ p. work script play < work script p) (sym same.1) more)
     go (inr more) before' (inr more') = inr (omega arith)
 
-below_range : (a n b : ℕ) → a + n ≤ b → AllByRecursion (λ h. h < b) (range_with_len a n)
-below_range a zero b le = tt
-below_range a (suc n) b le = (omega arith, below_range (a + 1) n b (omega arith))
-
-pub harts_are_below : (n : ℕ) → AllByRecursion (λ h. h < n) (harts_below n)
-harts_are_below n = below_range 0 n n (omega arith)
-
-at_all : (P : ℕ → Type 0) (a n : ℕ) → AllByRecursion P (range_with_len a n) → (h : ℕ) → a ≤ h → h < a + n → P h
-at_all P a zero all h low high = absurd (omega arith)
-at_all P a (suc n) all h low high = ⊎_elim (λ e. subst P e all.0) (λ ne. let ne' : a ≢ h = ne in at_all P (a + 1) n all.1 h (omega arith) (omega arith)) (cases_eq a h)
-
--- ---- where no hart can go on, no line is left
-
-pub find_some : (p : ℕ → Bool) (xs : List ℕ) (k : ℕ) → find p xs ≡ Some k → (p k ≡ true) × (has k xs ≡ true)
-find_some p [] k e = cc
-find_some p (x ∷ xs) k e = go (p x) refl e (find_some p xs k)
-  where
-    go : (b : Bool) → p x ≡ b → cond b (Some x) (find p xs) ≡ Some k → (find p xs ≡ Some k → (p k ≡ true) × (has k xs ≡ true)) → (p k ≡ true) × ((eqb x k || has k xs) ≡ true)
-    go true t q more = let s = same_Some x k q in (ap p (sym s) ∙ t, or_left (eqb x k) (has k xs) (eq-eqb x k s))
-    go false t q more = let m = more q in (m.0, or_right (eqb x k) (has k xs) m.1)
+-- ---- where no hart can go on, no line is left, and nobody is inside
 
 pub earlier_line : (phase : ℕ) (o : Option ScriptLine) → is_earlier phase o ≡ true → (l : ScriptLine) × (o ≡ Some l) × (l.phase < phase)
 earlier_line phase None e = false-true e
 earlier_line phase (Some l) e = (l, refl, ltb-true l.phase phase e)
 
-module _ (script : ScriptValue) (S : State) (still : (h : ℕ) → h < script.harts → (line : Line) → offer script S h ≡ Next line → ⊥) where
+-- a hart inside can go on
+touch_moves : (target : Target) (success : How → Event) (cause addr : ℕ) → Moves (guest_touch target success cause addr)
+touch_moves target success cause addr = go (nat_lt addr (2 ^ 41))
+  where
+    go : (b : Bool) → Moves (cond b (Touch target success (fault_exit cause addr)) (Single (fault_exit cause addr)))
+    go true = tt
+    go false = tt
+
+deed_moves : (S : State) (h : ℕ) (seat : Seat) (deed : Deed) → Moves (deed_offer S h seat deed)
+deed_moves S h seat Tires = tt
+deed_moves S h seat (Fetches addr) = touch_moves (fetch_target addr) (λ how. Event.Fetch how) 20 addr
+deed_moves S h seat (Executes rd value pc file) = tt
+deed_moves S h seat (Loads addr size signed rd) = touch_moves (access_target addr) (λ how. Event.Access how) 21 addr
+deed_moves S h seat (Stores addr size value) = touch_moves (access_target addr) (λ how. Event.Access how) 23 addr
+deed_moves S h seat (Asks act) = tt
+deed_moves S h seat Waits = tt
+deed_moves S h seat (Traps cause) = tt
+
+line_moves : (S : State) (h : ℕ) (line : Line) → Moves (line_offer S h line)
+line_moves S h (lines.Call call) = tt
+line_moves S h (lines.Load addr) = tt
+line_moves S h (lines.Store addr value) = tt
+
+module _ (script : ScriptValue) (S : State) (still : (h : ℕ) → h < script.harts → Moves (offer script S h) → ⊥) where
+  -- so a hart that has a line of which no hart is behind is not outside
+  moves_next : (h : ℕ) (l : ScriptLine) → next_line script h (ended_by S h) ≡ Some l → first_behind script S l.phase ≡ None → Moves (offer script S h)
+  moves_next h l next first = go (S.seats h)
+    where
+      inside : (b : Bool) (seat : Seat) → Moves (kicked_offer b (Some seat) (deed_offer S h seat (deed_of (cpu_of S seat))))
+      inside true seat = tt
+      inside false seat = deed_moves S h seat (deed_of (cpu_of S seat))
+
+      go : (o : Option Seat) → Moves (kicked_offer (has h S.kicked) o (unkicked_offer script S h o))
+      go None = subst (λ (o : Option ScriptLine). Moves (outside_offer script S h o)) (sym next) (subst (λ (o : Option ℕ). Moves (unless_behind o (line_offer S h l.line))) (sym first) (line_moves S h l.line))
+      go (Some seat) = inside (has h S.kicked) seat
+
   descend : (fuel h : ℕ) (l : ScriptLine) → h < script.harts → next_line script h (ended_by S h) ≡ Some l → l.phase < fuel → ⊥
   descend zero h l lt next small = omega arith
   descend (suc fuel) h l lt next small = go (first_behind script S l.phase) refl (λ k m lt' next' small'. descend fuel k m lt' next' small')
     where
       go : (o : Option ℕ) → first_behind script S l.phase ≡ o → ((k : ℕ) (m : ScriptLine) → k < script.harts → next_line script k (ended_by S k) ≡ Some m → m.phase < fuel → ⊥) → ⊥
-      go None e more = still h lt l.line (offered script S h l next e)
+      go None e more = still h lt (moves_next h l next e)
       go (Some k) e more =
           let f = find_some (is_behind script S l.phase) (harts_below script.harts) k e in
           let m = earlier_line l.phase (next_line script k (ended_by S k)) f.0 in
@@ -220,8 +222,15 @@ module _ (script : ScriptValue) (S : State) (still : (h : ℕ) → h < script.ha
   none_left h lt None e = refl
   none_left h lt (Some l) e = absurd (descend (suc l.phase) h l lt e (omega arith))
 
-  pub all_over : (h : ℕ) → h < script.harts → next_line script h (ended_by S h) ≡ None
+  all_over : (h : ℕ) → h < script.harts → next_line script h (ended_by S h) ≡ None
   all_over h lt = none_left h lt (next_line script h (ended_by S h)) refl
+
+at_all : (P : ℕ → Type 0) (n : ℕ) → AllByRecursion P (harts_below n) → (h : ℕ) → h < n → P h
+at_all P n all h lt = from 0 n all h (omega arith) (omega arith)
+  where
+    from : (a m : ℕ) → AllByRecursion P (range_with_len a m) → (k : ℕ) → a ≤ k → k < a + m → P k
+    from a zero rest k low high = absurd (omega arith)
+    from a (suc m) rest k low high = ⊎_elim (λ e. subst P e rest.0) (λ ne. let ne' : a ≢ k = ne in from (a + 1) m rest.1 k (omega arith) (omega arith)) (cases_eq a k)
 
 -- a round that changes nothing is the last one
 pub last_round : (limit : ℕ) (script : ScriptValue) (play : Play) → round limit script play ≡ play → IsEnded limit script play.history
@@ -234,38 +243,35 @@ last_round limit script play same = ⊎_elim
     unchanged (inl all) = all.0
     unchanged (inr more) = let e = ap (work script) same in absurd (omega arith)
 
-    still : length play.history < limit → (h : ℕ) → h < script.harts → (line : Line) → offer script (after script play.history) h ≡ Next line → ⊥
-    still room h lt line o =
-        let stays = at_all (λ k. turn limit script play k ≡ play) 0 script.harts (unchanged (turns_work limit script (harts_below script.harts) play (harts_are_below script.harts))) h (omega arith) (omega arith) in
-        let e = sym (turn_open limit script play h room ∙ ap (offer_turn script play (after script play.history) h) o) ∙ stays in
-        let more = line_work script play (after script play.history) h line lt in
-        let w = ap (work script) e in
+    still : length play.history < limit → (h : ℕ) → h < script.harts → Moves (offer script (after script play.history) h) → ⊥
+    still room h lt moves =
+        let S = after script play.history in
+        let stays = at_all (λ k. turn limit script play k ≡ play) script.harts (unchanged (turns_work limit script (harts_below script.harts) play (harts_are_below script.harts))) h lt in
+        let w = ap (work script) (sym (turn_open limit script play h room) ∙ stays) in
+        let more = sought_work script play h (offer script S h) (sought script S h) lt moves in
         omega arith
 
 -- ---- the rounds are enough
 
 turn_size : (limit : ℕ) (script : ScriptValue) (play : Play) (h : ℕ) → length play.history ≤ limit → length (turn limit script play h).history ≤ limit
-turn_size limit script play h le = cond_both (nat_lt (length play.history) limit) (offer_turn script play (after script play.history) h (offer script (after script play.history) h)) play (λ p. length p.history ≤ limit)
-    (λ room. offer_size (offer script (after script play.history) h) (ltb-true (length play.history) limit room))
+turn_size limit script play h le = cond_both (nat_lt (length play.history) limit) (sought_turn script play (after script play.history) h (offer script (after script play.history) h) (sought script (after script play.history) h)) play (λ p. length p.history ≤ limit)
+    (λ room. sought_size (offer script (after script play.history) h) (sought script (after script play.history) h) (ltb-true (length play.history) limit room))
     (λ full. le)
   where
     one : (event : Event) → length play.history < limit → length (entered play h event).history ≤ limit
     one event lt = let size = length_push play.history (entry_by h event) in omega arith
 
-    access_size : (success : How → Event) (fault : Event) (c : Choice) → length play.history < limit → length (access_turn play h success fault c).history ≤ limit
-    access_size success fault (Walks found) lt = le
-    access_size success fault (Succeeds how) lt = one (success how) lt
-    access_size success fault Faults lt = one fault lt
+    entry_size : (o : Offer) → length play.history < limit → length (entry_turn script play (after script play.history) h o).history ≤ limit
+    entry_size Nothing lt = le
+    entry_size (Behind k) lt = le
+    entry_size (Single event) lt = one event lt
+    entry_size (Touch target success fault) lt = one (ended_event success fault (ending (holds_target (tlb script play.history h) target) (play.notes h) (is_found (after script play.history) h target))) lt
 
-    line_size : (line : Line) → length play.history < limit → length (line_turn script play (after script play.history) h line).history ≤ limit
-    line_size (lines.Call call) lt = one (events.Call call (reply_to (after script play.history) h call)) lt
-    line_size (lines.Load addr) lt = access_size (λ how. events.Load addr how (word_at (after script play.history) addr)) (events.LoadFault addr) (choice_at script play (after script play.history) h addr) lt
-    line_size (lines.Store addr value) lt = access_size (λ how. events.Store addr value how) (events.StoreFault addr value) (choice_at script play (after script play.history) h addr) lt
-
-    offer_size : (o : Offer) → length play.history < limit → length (offer_turn script play (after script play.history) h o).history ≤ limit
-    offer_size Nothing lt = le
-    offer_size (Behind k) lt = le
-    offer_size (Next line) lt = line_size line lt
+    sought_size : (o : Offer) (t : Option Target) → length play.history < limit → length (sought_turn script play (after script play.history) h o t).history ≤ limit
+    sought_size o None lt = entry_size o lt
+    sought_size o (Some target) lt = cond_both (walks_first (holds_target (tlb script play.history h) target) (play.notes h)) (walked play h (is_found (after script play.history) h target)) (entry_turn script play (after script play.history) h o) (λ (p : Play). length p.history ≤ limit)
+        (λ first. le)
+        (λ then. entry_size o lt)
 
 pub turns_size : (limit : ℕ) (script : ScriptValue) (hs : List ℕ) (play : Play) → length play.history ≤ limit → length (fold (turn limit script) play hs).history ≤ limit
 turns_size limit script [] play le = le

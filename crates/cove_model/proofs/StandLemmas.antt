@@ -1,5 +1,5 @@
 -- Words that stand for a state, after stores.
-use Rattle.std.proofs.Common.{◌≡◌, ◌≢◌, ℕ, ◌+◌, ◌<◌, ◌≤◌, ◌⊎◌, List, length, get_or, refl, sym, ◌∙◌, ap, subst, inl, inr, arith, false, true, map}
+use Rattle.std.proofs.Common.{Option, Some, None, ◌≡◌, ◌≢◌, ℕ, ◌+◌, ◌<◌, ◌≤◌, ◌⊎◌, List, length, get_or, refl, sym, ◌∙◌, ap, subst, inl, inr, arith, false, true, map}
 use Rattle.std.proofs.Math.Path.{fun_ext}
 use Rattle.std.proofs.lemmas.List.{length-map}
 use Rattle.std.proofs.lemmas.Bool.{cases_lt, false≢true}
@@ -7,9 +7,10 @@ use Rattle.cove_base.specs.Places.{table_word, epoch_word, answered_word, tvm_wo
 use Rattle.cove_base.specs.Stores.{stored, fills}
 use Rattle.cove_base.proofs.StoreLemmas.{length-stored, get_or-fills, get_or-fills_other}
 use Rattle.cove_model.specs.Owners.{Owner, Host, Converting, Free, Given, page_at, change, is_host, is_free}
-use Rattle.cove_model.specs.States.{State}
+use Rattle.cove_model.specs.States.{Seat, State}
 use Rattle.cove_model.specs.WordLaws.{Stand}
-use Rattle.cove_model.specs.WordsStand.{WordsStand, PageStands, is_table, epoch_in, answered_in, maps_of, harts_behind}
+use Rattle.cove_base.specs.declared.limits.TheConstants.{TVM_LIMIT}
+use Rattle.cove_model.specs.WordsStand.{SeatStands, number_in, WordsStand, PageStands, is_table, epoch_in, answered_in, maps_of, harts_behind}
 use Rattle.cove_model.proofs.Runs.{change_cases, change_inside, change_outside, length_change, page_map}
 
 -- a page word stands for an owner, by equal numbers
@@ -19,6 +20,17 @@ page_moves harts e e' a a' m w w' o o' ee aa ww oo h =
     (subst (λ x. PageStands harts e x m w' o') (sym aa)
     (subst (λ x. PageStands harts e a m x o') (sym ww)
     (subst (λ x. PageStands harts e a m w x) (sym oo) h)))
+
+-- the word of a hart stands for where it is, by equal numbers of TVMs
+pub seat_moves : (pages harts : ℕ) (words words' : List ℕ) (w w' : ℕ) (o : Option Seat) → ((t : ℕ) → 1 ≤ t → t ≤ TVM_LIMIT → number_in pages harts words' t ≡ number_in pages harts words t) → w' ≡ w → SeatStands pages harts words w o → SeatStands pages harts words' w' o
+seat_moves pages harts words words' w w' None numbers e stands = e ∙ stands
+seat_moves pages harts words words' w w' (Some seat) numbers e stands = record {
+  low = stands.low;
+  high = stands.high;
+  number = stands.number;
+  begun = subst (λ n. stands.number ≤ n) (sym (numbers seat.tvm stands.low stands.high)) stands.begun;
+  is = e ∙ stands.is;
+}
 
 pub host_page : (owner : Owner) → is_host owner ≡ true → (words : List ℕ) × (owner ≡ Host words)
 host_page (Host words) e = (words, refl)
@@ -75,7 +87,10 @@ filled_stand pages harts words S how first n word inside tables each stand =
           | inr other ↦ tables (page_at S.pages p) (sym (ap is_table other) ∙ e)
         ]);
         unused = behind (tvm_word pages harts 0) (omega arith) ∙ old.unused;
-        outside = λ hart on. behind (hart_word pages harts hart) (omega arith) ∙ old.outside hart on;
+        seats = λ hart on.
+            seat_moves pages harts words words' (get_or words (hart_word pages harts hart) 0) (get_or words' (hart_word pages harts hart) 0) (S.seats hart)
+            (λ t low high. behind (tvm_word pages harts t) (omega arith))
+            (behind (hart_word pages harts hart) (omega arith)) (old.seats hart on);
       };
       within = λ hart on.
           let was : answered_in pages words hart ≤ epoch_in pages words = stand.within hart on in
@@ -104,8 +119,13 @@ answered_stand pages harts hart words words' S how unanswered on long others fre
       let apart : tvm_word pages harts 0 ≢ epoch_word pages = omega arith in
       let other : tvm_word pages harts 0 ≢ answered_word pages hart = omega arith in
       others (tvm_word pages harts 0) apart other ∙ old.unused;
-  outside = λ k within.
+  seats = λ k within.
       let apart : hart_word pages harts k ≢ epoch_word pages = omega arith in
       let other : hart_word pages harts k ≢ answered_word pages hart = omega arith in
-      others (hart_word pages harts k) apart other ∙ old.outside k within;
+      seat_moves pages harts words words' (get_or words (hart_word pages harts k) 0) (get_or words' (hart_word pages harts k) 0) (S.seats k)
+      (λ t low high.
+      let apart_t : tvm_word pages harts t ≢ epoch_word pages = omega arith in
+      let other_t : tvm_word pages harts t ≢ answered_word pages hart = omega arith in
+      others (tvm_word pages harts t) apart_t other_t)
+      (others (hart_word pages harts k) apart other) (old.seats k within);
 }

@@ -3,14 +3,14 @@ use Rattle.std.proofs.Common.{◌≡◌, ◌≢◌, ℕ, ◌+◌, ◌<◌, ◌�
 use Rattle.std.proofs.lemmas.Bool.{cases_eq}
 use Rattle.std.proofs.lemmas.Grind.{get_or-set_at}
 use Rattle.cove_base.specs.PageWords.{host, given, IsHostWord}
-use Rattle.cove_base.specs.Places.{epoch_word, answered_word, all_words}
+use Rattle.cove_base.specs.Places.{epoch_word, answered_word, tvm_word, all_words}
 use Rattle.cove_base.specs.declared.limits.TheConstants.{ENTRY_LIMIT}
 use Rattle.cove_base.specs.declared.numbers.Role.{Role}
 use Rattle.cove_base.specs.declared.numbers.Role.TheVariants.{Data}
 use Rattle.cove_model.specs.WordsStand.{FreeStands, epoch_in, answered_in}
 use Rattle.cove_model.specs.LawfulStores.{Tables, IsLawful, Counts, Converts, Frees, Gives, TakesBack, Removes, Answers, Begins}
 use Rattle.cove_model.specs.WordLaws.{AnswersWithin}
-use Rattle.cove_model.specs.StoreLaw.{IsUsableWord, MayUse, StoresKeepUsable, StoresKeepHost, StoresKeepAnswers, StoresKeepEpoch}
+use Rattle.cove_model.specs.StoreLaw.{IsUsableWord, MayUse, StoresKeepUsable, StoresKeepHost, StoresKeepAnswers, StoresKeepFences}
 
 -- a free page is none that a hart of the board may use
 usable_free : (harts : ℕ) (numbers : ℕ → ℕ) (word hart : ℕ) → hart < harts → IsUsableWord (numbers hart) word → FreeStands harts numbers word → ⊥
@@ -160,7 +160,7 @@ stores_keep_answers pages harts tables hart old words place word size within law
       ]
     ]
 
-pub stores_keep_epoch : StoresKeepEpoch
+stores_keep_epoch : (pages harts : ℕ) (tables : ℕ → Tables) (hart : ℕ) (old words : List ℕ) (place word : ℕ) → length words ≡ all_words pages harts → epoch_in pages words ≤ ENTRY_LIMIT → IsLawful pages harts tables hart old words place word → epoch_in pages (set words place word) ≤ ENTRY_LIMIT
 stores_keep_epoch pages harts tables hart old words place word size limit lawful =
     let next : List ℕ = set words place word in
     elim (page_of lawful) [
@@ -183,6 +183,23 @@ stores_keep_epoch pages harts tables hart old words place word size limit lawful
             omega arith
       ]
     ]
+
+-- no lawful store is one of the number of a TVM
+numbers_apart : {pages harts : ℕ} {tables : ℕ → Tables} {hart : ℕ} {old words : List ℕ} {place word : ℕ} → IsLawful pages harts tables hart old words place word → (t : ℕ) → tvm_word pages harts t ≢ place
+numbers_apart {pages} {harts} {tables} {hart} {old} {words} {place} {word} lawful t = elim (page_of lawful) [
+  | inl page ↦ omega arith
+  | inr rest ↦ elim rest [
+    | inl own ↦ let at : place ≡ answered_word pages hart = own.0 in let on : hart < harts = own.1 in omega arith
+    | inr begun ↦ let at : place ≡ epoch_word pages = begun.0 in omega arith
+  ]
+]
+
+pub stores_keep_fences : StoresKeepFences
+stores_keep_fences pages harts tables hart old words place word size limit lawful = record {
+  epoch = stores_keep_epoch pages harts tables hart old words place word size limit.epoch lawful;
+  numbers = λ t low high.
+      subst (λ n. n ≤ ENTRY_LIMIT) (sym (get_or-set_other words place (tvm_word pages harts t) word 0 (numbers_apart lawful t))) (limit.numbers t low high);
+}
 
 pub stores_keep_usable : StoresKeepUsable
 stores_keep_usable pages harts tables hart other old words place word p size within on ne inside lawful may =

@@ -1,11 +1,13 @@
 -- What words that stand tell of the state.
-use Rattle.std.proofs.Common.{◌≡◌, ℕ, zero, suc, ◌+◌, ◌^◌, ◌<◌, ◌≤◌, ◌⊎◌, Bool, cond, ltb, List, [], ◌∷◌, length, get_or, refl, sym, ◌∙◌, ap, subst, inl, inr, arith, false, true}
-use Rattle.std.proofs.lemmas.Bool.{cases_lt, lt-ltb, le-ltb}
+use Rattle.std.proofs.Common.{◌≡◌, ℕ, zero, suc, ◌+◌, ◌^◌, ◌<◌, ◌≤◌, ◌⊎◌, Bool, cond, eqb, ltb, ◌||◌, List, [], ◌∷◌, length, get_or, refl, sym, ◌∙◌, ap, subst, inl, inr, arith, false, true}
+use Rattle.std.proofs.lemmas.List.Sums.{length-filter}
+use Rattle.cove_model.specs.States.{State, shared_pages}
+use Rattle.std.proofs.lemmas.Bool.{false≢true, cases_lt, lt-ltb, le-ltb}
 use Rattle.std.specs.List.{filter, range_with_len}
-use Rattle.cove_base.specs.PageWords.{converting, released, IsHostWord, IsFreeWord, IsPageWord, OfHost, OfConverting, OfGiven, OfReleased}
-use Rattle.cove_model.specs.Owners.{Owner, Host, Converting, Free, Given, is_host, is_free, page_at}
-use Rattle.cove_model.specs.WordsStand.{PageStands, role_of, epoch_in, answered_in, maps_of}
-use Rattle.cove_model.specs.WordLaws.{WordsTellHost, WordsTellFree, WordsTellAnswered, WordsTellLowest, WordsAreWords}
+use Rattle.cove_base.specs.PageWords.{host, converting, released, IsHostWord, IsFreeWord, IsPageWord, OfHost, OfConverting, OfGiven, OfReleased}
+use Rattle.cove_model.specs.Owners.{Owner, has, Host, Converting, Free, Given, is_host, is_free, page_at}
+use Rattle.cove_model.specs.WordsStand.{OwnersStand, PageStands, role_of, epoch_in, answered_in, maps_of}
+use Rattle.cove_model.specs.WordLaws.{WordsTellHost, WordsTellShared, WordsTellFree, WordsTellAnswered, WordsTellLowest, WordsAreWords}
 use Rattle.cove_model.proofs.StandLemmas.{host_page, free_page}
 
 host_from : (harts epoch : ℕ) (numbers : ℕ → ℕ) (maps word : ℕ) (owner : Owner) → PageStands harts epoch numbers maps word owner → IsHostWord word → is_host owner ≡ true
@@ -15,13 +17,45 @@ host_from harts epoch numbers maps word Free (inl stands) is = absurd (omega (ar
 host_from harts epoch numbers maps word Free (inr stands) is = absurd (omega (arith, is.1, stands.1))
 host_from harts epoch numbers maps word (Given tvm purpose) stands is = absurd (omega (arith, is.1, stands.2))
 
+-- the word of a page of the host's says how often it is mapped
+pub maps_told : (pages harts : ℕ) (words : List ℕ) (S : State) (p : ℕ) → p < pages → OwnersStand pages harts words S → is_host (page_at S.pages p) ≡ true → get_or words p 0 ≡ host (maps_of S p)
+maps_told pages harts words S p within old e =
+    let was = host_page (page_at S.pages p) e in
+    subst (λ o. PageStands harts (epoch_in pages words) (answered_in pages words) (maps_of S p) (get_or words p 0) o) was.1 (old.page p within)
+
 pub words_tell_host : WordsTellHost
 words_tell_host pages harts words S p within old = (
-  λ e.
-      let was = host_page (page_at S.pages p) e in
-      (maps_of S p, subst (λ o. PageStands harts (epoch_in pages words) (answered_in pages words) (maps_of S p) (get_or words p 0) o) was.1 (old.page p within)),
+  λ e. (maps_of S p, maps_told pages harts words S p within old e),
   λ is. host_from harts (epoch_in pages words) (answered_in pages words) (maps_of S p) (get_or words p 0) (page_at S.pages p) (old.page p within) is,
 )
+
+-- a number that is counted nowhere is in no list, and the other way round
+counts_none : (p : ℕ) (qs : List ℕ) → has p qs ≡ false → length (filter (λ q. eqb q p) qs) ≡ 0
+counts_none p [] e = refl
+counts_none p (q ∷ qs) e = go (eqb q p) e (counts_none p qs)
+  where
+    go : (b : Bool) → (b || has p qs) ≡ false → (has p qs ≡ false → length (filter (λ k. eqb k p) qs) ≡ 0) → length (cond b (q ∷ filter (λ k. eqb k p) qs) (filter (λ k. eqb k p) qs)) ≡ 0
+    go true t more = absurd (false≢true (sym t))
+    go false t more = more t
+
+none_counts : (p : ℕ) (qs : List ℕ) → length (filter (λ q. eqb q p) qs) ≡ 0 → has p qs ≡ false
+none_counts p [] e = refl
+none_counts p (q ∷ qs) e = go (eqb q p) e (none_counts p qs)
+  where
+    go : (b : Bool) → length (cond b (q ∷ filter (λ k. eqb k p) qs) (filter (λ k. eqb k p) qs)) ≡ 0 → (length (filter (λ k. eqb k p) qs) ≡ 0 → has p qs ≡ false) → (b || has p qs) ≡ false
+    go true t more = absurd (omega arith)
+    go false t more = more t
+
+-- how often a page is mapped is 0 where it is not
+pub maps_none : (S : State) (p : ℕ) → has p (shared_pages S) ≡ false → maps_of S p ≡ 0
+maps_none S p e = sym (length-filter (λ q. eqb q p) (shared_pages S)) ∙ counts_none p (shared_pages S) e
+
+pub words_tell_shared : WordsTellShared
+words_tell_shared pages harts words S p within old e =
+    let is : get_or words p 0 ≡ host (maps_of S p) = maps_told pages harts words S p within old e in (
+      λ none. is ∙ ap host (maps_none S p none),
+      λ zero_maps. none_counts p (shared_pages S) (length-filter (λ q. eqb q p) (shared_pages S) ∙ (let z = is in omega arith)),
+    )
 
 free_from : (harts epoch : ℕ) (numbers : ℕ → ℕ) (maps word floor : ℕ) → ((k : ℕ) → k < harts → floor ≤ numbers k) → (owner : Owner) → PageStands harts epoch numbers maps word owner → IsFreeWord floor word → is_free owner ≡ true
 free_from harts epoch numbers maps word floor least (Host words) stands (inl is) = absurd (omega arith)

@@ -1,239 +1,329 @@
--- A page that a hart holds a translation of is one that it may use, and so no page changes hands under a translation.
-use Rattle.cove_base.proofs.ScriptLimits.{IsWithin, Limits}
-use Rattle.cove_base.specs.HartLines.{next_line}
-use Rattle.cove_base.specs.Scripts.{ScriptValue}
-use Rattle.cove_base.specs.declared.calls.HostCall.{HostCall}
-use Rattle.cove_base.specs.declared.calls.HostCall.TheVariants.{Convert, GlobalFence, LocalFence, Reclaim, Run}
-use Rattle.cove_base.specs.declared.events.Entry.{Entry}
-use Rattle.cove_base.specs.declared.events.Event.{Event}
-use Rattle.cove_base.specs.declared.scripts.ScriptLine.{ScriptLine}
-use Rattle.cove_base.specs.declared.statuses.Reply.{Reply}
-use Rattle.cove_base.specs.declared.statuses.Status.TheVariants.{Success}
-use Rattle.cove_model.proofs.AtTheEnd.{Allowed, after_push, done_harts, from_end, legal_front, legal_last, own_other, own_same, tlb_other, tlb_same}
-use Rattle.cove_model.proofs.Beginning.{asked_line, due}
-use Rattle.cove_model.proofs.Members.{false-true, has_below, has_filled, has_without}
-use Rattle.cove_model.proofs.Runs.{change_cases}
-use Rattle.cove_model.proofs.Soundness.{Converts, Fences, Move, Reclaims, Responds, Same, Stores, moves, sound}
-use Rattle.cove_model.specs.Cached.{WasHost}
-use Rattle.cove_model.specs.Effects.{effect, refusal, state_by, value_of}
-use Rattle.cove_model.specs.Examples.{call}
-use Rattle.cove_model.specs.Histories.{Legal, after, own}
-use Rattle.cove_model.specs.Owners.{Converting, Free, Given, Host, Owner, TheHost, fence_answered, change, converted, fenced, has, holder, is_host, may_use, page_at, reclaimed, settled, word_stored, without}
-use Rattle.cove_model.specs.Sound.{IsSound, IsSoundPage}
-use Rattle.cove_model.specs.States.{State, ended_by, harts_below, page_of, word_place}
-use Rattle.cove_model.specs.Steps.{Answers, after_event, asked, done}
-use Rattle.cove_base.specs.Statuses.{is_success}
-use Rattle.cove_model.specs.Tlbs.{Tlb, after_call, nothing_held, renewed, tlb}
-use Rattle.std.proofs.Common.{Bool, List, None, Option, Some, T, [], ap, append-nil, append_assoc, arith, cond, eqb, eqb-true, false, filter, refl, slice_get, subst, suc, sym, true, unwrap_or, zero, ℕ, ⊎_elim, ◌++◌, ◌/◌, ◌<◌, ◌∙◌, ◌∷◌, ◌≡◌, ◌≤◌}
-use Rattle.std.proofs.lemmas.Bool.{cases_eq, cases_lt}
-use Rattle.std.proofs.lemmas.Option.{none-some, same_Some}
+-- What a hart's translations name it may use, before and after each event.
+use Rattle.std.proofs.Common.{◌≡◌, ℕ, zero, suc, ◌-◌, ◌<◌, Bool, true, false, cond, ◌&&◌, true≢false, List, [], ◌∷◌, ◌++◌, length, drop, Option, Some, None, unwrap_or, refl, sym, ap, subst, ◌∙◌, inl, inr, ◌⊎◌, ⊎_elim}
 use Rattle.std.specs.List.{AllByRecursion}
+use Rattle.std.specs.Option.{option_map_or}
+use Rattle.std.proofs.lemmas.Bool.{and_parts}
+use Rattle.std.proofs.lemmas.Option.{none-some}
+use Rattle.cove_base.specs.Registers.{register}
+use Rattle.cove_base.specs.declared.statuses.Status.TheVariants.{Success}
+use Rattle.cove_base.specs.Rings.{ring_room}
+use Rattle.cove_base.specs.Scripts.{ScriptValue}
+use Rattle.cove_base.specs.Statuses.{is_success}
+use Rattle.cove_base.specs.declared.calls.GuestAct.{GuestAct}
+use Rattle.cove_base.specs.declared.calls.GuestAct.TheVariants as acts
+use Rattle.cove_base.specs.declared.calls.HostCall.{HostCall}
+use Rattle.cove_base.specs.declared.events.Event.{Event}
 use Rattle.cove_base.specs.declared.events.Event.TheVariants as events
+use Rattle.cove_base.specs.declared.events.How.TheVariants.{Hit, Walk}
+use Rattle.cove_base.specs.declared.numbers.Gpn.{Gpn}
+use Rattle.cove_base.specs.declared.statuses.Reply.{Reply}
+use Rattle.cove_base.specs.declared.walks.Target.{Target}
+use Rattle.cove_base.specs.declared.walks.Target.TheVariants as target
+use Rattle.cove_model.proofs.Runs.{change_cases}
+use Rattle.cove_model.specs.Owners.{may_use, page_at, word_stored}
+use Rattle.cove_model.specs.States.{page_of, word_place, Seat, State, tvm_at}
+use Rattle.cove_model.proofs.Answering.{guest_answer, host_answer}
+use Rattle.cove_model.proofs.EventMoves.{moves, seat_other, seats_acted, seats_performed, wrote_guest}
+use Rattle.cove_model.proofs.Fairness.{IsFair, fair}
+use Rattle.cove_model.proofs.Keeping.{Keeps as KeepsTvm, keeps_same}
+use Rattle.cove_model.proofs.KeepingCalls.{blocks, keeps_acted, keeps_done, keeps_performed, keeps_seat}
+use Rattle.cove_model.proofs.Lists.{all_append, all_weaker}
+use Rattle.cove_model.proofs.Moves.{outcome_state}
+use Rattle.cove_model.proofs.UsingPages.{Spares, use_call, use_move, use_stored, use_wrote}
+use Rattle.cove_model.specs.Answers.{refusal, refusal_by, reply_to, state_by}
+use Rattle.cove_model.specs.Deeds.{deed_of}
+use Rattle.cove_model.specs.GuestCalls.{guest_rule}
+use Rattle.cove_model.specs.HostCalls.{Forgets, Keeps, ForgetsGuests, ForgetsAll, rule}
+use Rattle.cove_model.specs.Mappings.{is_own, mapping_of, may_follow, page_under}
+use Rattle.cove_model.specs.Offers.{cpu_of, is_mapped_for, may_succeed, seat_mapping}
+use Rattle.cove_model.specs.Sound.{IsSound, IsUsable, Leads}
+use Rattle.cove_model.specs.Steps.{Allows, acted, after_event, done, done_at, end_line, guest_done, host_done, line_ended}
+use Rattle.cove_model.specs.Translations.{Came, Failed, Tlb, Touched, emptied_by, filled, forgets_at, forgets_by, forgets_inside, forgets_outside, pair_of, renewed, touched, where_accepted, with_target, with_touched}
+use Rattle.cove_model.specs.Tvms.{Mapping}
 
--- ---- what a step leaves to a hart
+-- ---- lists of translations
 
-use_settled : (h : ℕ) (held waiting words : List ℕ) → has h held ≡ true → has h waiting ≡ true → may_use h (settled held waiting words) ≡ true
-use_settled h held [] words e w = false-true w
-use_settled h held (x ∷ xs) words e w = e
+all_drop : {X : Type 0} (P : X → Type 0) (n : ℕ) (xs : List X) → AllByRecursion P xs → AllByRecursion P (drop n xs)
+all_drop {X} P zero xs all = all
+all_drop {X} P (suc n) [] all = tt
+all_drop {X} P (suc n) (x ∷ xs) all = all_drop P n xs all.1
 
-use_converted : (n h : ℕ) (o : Owner) → h < n → may_use h o ≡ true → may_use h (converted (harts_below n) o) ≡ true
-use_converted n h (Host words) lt e = has_below n h lt
-use_converted n h (Converting held waiting words) lt e = e
-use_converted n h Free lt e = e
-use_converted n h (Given tvm purpose) lt e = e
+pub all_filled : {X : Type 0} (P : X → Type 0) (xs : List X) (x : X) → AllByRecursion P xs → P x → AllByRecursion P (filled xs x)
+all_filled {X} P xs x all here = all_drop P (length (xs ++ x ∷ []) - ring_room) (xs ++ x ∷ []) (all_append P xs (x ∷ []) all (here, tt))
 
-use_reclaimed : (h : ℕ) (o : Owner) → may_use h o ≡ true → may_use h (reclaimed o) ≡ true
-use_reclaimed h (Host words) e = refl
-use_reclaimed h (Converting held waiting words) e = e
-use_reclaimed h Free e = false-true e
-use_reclaimed h (Given tvm purpose) e = e
+-- ---- what may succeed leads
 
-use_stored : (h place value : ℕ) (o : Owner) → may_use h o ≡ true → may_use h (word_stored place value o) ≡ true
-use_stored h place value (Host words) e = refl
-use_stored h place value (Converting held waiting words) e = e
-use_stored h place value Free e = e
-use_stored h place value (Given tvm purpose) e = e
+-- a mapping of the hart's TVM that passes a test
+pub record IsMapped (S : State) (h g : ℕ) (test : Mapping → Bool) : Type 0 where
+  pub seat : Seat
+  pub sits : S.seats h ≡ Some seat
+  pub mapping : Mapping
+  pub found : mapping_of (tvm_at S seat.tvm) g ≡ Some mapping
+  pub passes : test mapping ≡ true
 
-use_fenced : (S : State) (k h : ℕ) (o : Owner) → IsSoundPage S o → h < S.harts → (h ≡ k → ⊥) → may_use h o ≡ true → may_use h (fenced k (without k (harts_below S.harts)) o) ≡ true
-use_fenced S k h (Host words) sound lt ne e = refl
-use_fenced S k h (Converting held None words) sound lt ne e = use_settled h (without k held) (without k (harts_below S.harts)) words (has_without k h ne held e) (has_without k h ne (harts_below S.harts) (has_below S.harts h lt))
-use_fenced S k h (Converting held (Some waiting) words) sound lt ne e = use_settled h (without k held) waiting words (has_without k h ne held e) (sound.1 h e)
-use_fenced S k h Free sound lt ne e = e
-use_fenced S k h (Given tvm purpose) sound lt ne e = e
+pub is_mapped : (S : State) (h g : ℕ) (test : Mapping → Bool) → is_mapped_for S h g test ≡ true → IsMapped S h g test
+is_mapped S h g test e = go (S.seats h) refl e
+  where
+    inner : (seat : Seat) → S.seats h ≡ Some seat → (o : Option Mapping) → mapping_of (tvm_at S seat.tvm) g ≡ o → option_map_or test o false ≡ true → IsMapped S h g test
+    inner seat s None f q = absurd (true≢false (sym q))
+    inner seat s (Some m) f q = record { seat = seat; sits = s; mapping = m; found = f; passes = q }
 
-use_answered : (S : State) (k h : ℕ) (o : Owner) → IsSoundPage S o → (h ≡ k → ⊥) → may_use h o ≡ true → may_use h (fence_answered k o) ≡ true
-use_answered S k h (Host words) sound ne e = refl
-use_answered S k h (Converting held None words) sound ne e = has_without k h ne held e
-use_answered S k h (Converting held (Some waiting) words) sound ne e = use_settled h (without k held) (without k waiting) words (has_without k h ne held e) (has_without k h ne waiting (sound.1 h e))
-use_answered S k h Free sound ne e = e
-use_answered S k h (Given tvm purpose) sound ne e = e
+    go : (o : Option Seat) → S.seats h ≡ o → option_map_or (λ seat. option_map_or test (seat_mapping S g seat) false) o false ≡ true → IsMapped S h g test
+    go None s q = absurd (true≢false (sym q))
+    go (Some seat) s q = inner seat s (mapping_of (tvm_at S seat.tvm) g) refl q
 
-use_move : (S T : State) (k h : ℕ) (old new : Owner) → Move S T k old new → IsSoundPage S old → h < S.harts → (h ≡ k → ⊥) → may_use h old ≡ true → may_use h new ≡ true
-use_move S T k h old new (Same u q) sound lt ne e = ap (may_use h) q ∙ e
-use_move S T k h old new (Converts u q) sound lt ne e = ap (may_use h) q ∙ use_converted S.harts h old lt e
-use_move S T k h old new (Reclaims u q) sound lt ne e = ap (may_use h) q ∙ use_reclaimed h old e
-use_move S T k h old new (Stores place value u q) sound lt ne e = ap (may_use h) q ∙ use_stored h place value old e
-use_move S T k h old new (Fences all u q) sound lt ne e = ap (may_use h) q ∙ use_fenced S k h old sound lt ne e
-use_move S T k h old new (Responds u q) sound lt ne e = ap (may_use h) q ∙ use_answered S k h old sound ne e
+-- its page is that of the pair
+pair_page : (S : State) (h g : ℕ) (seat : Seat) (m : Mapping) → S.seats h ≡ Some seat → mapping_of (tvm_at S seat.tvm) g ≡ Some m → page_under m.backing ≡ (pair_of S h g).1
+pair_page S h g seat m sits found =
+    sym (ap (λ o. option_map_or (λ (s : Seat). option_map_or (λ (k : Mapping). page_under k.backing) (seat_mapping S g s) 0) o 0) sits
+    ∙ ap (λ o. option_map_or (λ (k : Mapping). page_under k.backing) o 0) found)
 
--- a hart's use of a page outlives an event of another hart
-pub use_other : (S : State) (k h p : ℕ) (event : Event) → IsSound S → h < S.harts → (h ≡ k → ⊥) → may_use h (page_at S.pages p) ≡ true → may_use h (page_at (after_event S k event).pages p) ≡ true
-use_other S k h p event sound lt ne e = use_move S (done S k event) k h (page_at S.pages p) (page_at (done S k event).pages p) (moves S k event p) (sound.pages_sound p) lt ne e
+leads_fetch : (S : State) (h : ℕ) (g : Gpn) → may_succeed S h (target.Fetch g) ≡ true → Leads S h true (pair_of S h g.0).0 (pair_of S h g.0).1
+leads_fetch S h g e =
+    let m = is_mapped S h g.0 (λ k. is_own k.backing && may_follow h k.standing) e in
+    let parts = and_parts (is_own m.mapping.backing) (may_follow h m.mapping.standing) m.passes in
+    record { seat = m.seat; sits = m.sits; mapping = m.mapping; found = m.found; kind = parts.0; shows = pair_page S h g.0 m.seat m.mapping m.sits m.found; follows = parts.1 }
 
-pub use_host : (h : ℕ) (o : Owner) → is_host o ≡ true → may_use h o ≡ true
-use_host h (Host words) e = refl
-use_host h (Converting held waiting words) e = false-true e
-use_host h Free e = false-true e
-use_host h (Given tvm purpose) e = false-true e
+leads_access : (S : State) (h : ℕ) (g : Gpn) → may_succeed S h (target.Access g) ≡ true → (own : Bool) × Leads S h own (pair_of S h g.0).0 (pair_of S h g.0).1
+leads_access S h g e =
+    let m = is_mapped S h g.0 (λ k. may_follow h k.standing) e in (
+      is_own m.mapping.backing,
+      record { seat = m.seat; sits = m.sits; mapping = m.mapping; found = m.found; kind = refl; shows = pair_page S h g.0 m.seat m.mapping m.sits m.found; follows = m.passes },
+    )
 
-pub use_holder : (h : ℕ) (o : Owner) → may_use h o ≡ true → holder o ≡ TheHost
-use_holder h (Host words) e = refl
-use_holder h (Converting held waiting words) e = refl
-use_holder h Free e = false-true e
-use_holder h (Given tvm purpose) e = false-true e
+-- ---- before the event: what was held, and what it came to
+
+usable_target : (S : State) (h : ℕ) (held : Tlb) (sought : Target) → may_succeed S h sought ≡ true → IsUsable S h held → IsUsable S h (with_target S h sought held)
+usable_target S h held (target.Host p) e usable = record {
+  pages = all_filled (λ q. may_use h (page_at S.pages q) ≡ true) held.pages p.0 usable.pages e;
+  fetches = usable.fetches;
+  accesses = usable.accesses;
+}
+usable_target S h held (target.Fetch g) e usable = record {
+  pages = usable.pages;
+  fetches = all_filled (λ (pair : ℕ × ℕ). Leads S h true pair.0 pair.1) held.fetches (pair_of S h g.0) usable.fetches (leads_fetch S h g e);
+  accesses = usable.accesses;
+}
+usable_target S h held (target.Access g) e usable = record {
+  pages = usable.pages;
+  fetches = usable.fetches;
+  accesses = all_filled (λ (pair : ℕ × ℕ). (own : Bool) × Leads S h own pair.0 pair.1) held.accesses (pair_of S h g.0) usable.accesses (leads_access S h g e);
+}
+
+usable_touched : (S : State) (h : ℕ) (held : Tlb) (t : Touched) → IsFair S h t → IsUsable S h held → IsUsable S h (with_touched S h t held)
+usable_touched S h held None is usable = usable
+usable_touched S h held (Some (sought, Came Hit)) is usable = usable
+usable_touched S h held (Some (sought, Came Walk)) is usable = usable_target S h held sought is usable
+usable_touched S h held (Some (sought, Failed)) is usable = usable
+
+usable_emptied : (S : State) (h : ℕ) (held : Tlb) (forgets : Forgets) → IsUsable S h held → IsUsable S h (emptied_by forgets held)
+usable_emptied S h held Keeps usable = usable
+usable_emptied S h held ForgetsGuests usable = record { pages = usable.pages; fetches = tt; accesses = tt }
+usable_emptied S h held ForgetsAll usable = record { pages = tt; fetches = tt; accesses = tt }
+
+-- what is held after an allowed event could be used before it
+pub usable_before : (script : ScriptValue) (S : State) (h : ℕ) (held : Tlb) (event : Event) → Allows script S h event → IsUsable S h held → IsUsable S h (renewed S h held event)
+usable_before script S h held event allows usable =
+    usable_emptied S h (with_touched S h (touched S h event) held) (forgets_by S h event) (usable_touched S h held (touched S h event) (fair script S h event allows) usable)
+
+-- ---- from one state to another
+
+-- what leads goes on leading where the seat stays and the mappings of its TVM are kept
+pub leads_kept : (S T : State) (h : ℕ) (own : Bool) (g p : ℕ) → T.seats h ≡ S.seats h
+    → ((seat : Seat) → S.seats h ≡ Some seat → KeepsTvm h (tvm_at S seat.tvm) (tvm_at T seat.tvm)) → Leads S h own g p → Leads T h own g p
+leads_kept S T h own g p seats keeps leads =
+    let k = keeps leads.seat leads.sits g leads.mapping leads.found leads.follows in
+    record {
+      seat = leads.seat;
+      sits = seats ∙ leads.sits;
+      mapping = k.0;
+      found = k.1;
+      kind = k.2.kind ∙ leads.kind;
+      shows = k.2.shows ∙ leads.shows;
+      follows = k.2.follows leads.follows;
+    }
+
+pub usable_kept : (S T : State) (h : ℕ) (held : Tlb) → ((p : ℕ) → may_use h (page_at S.pages p) ≡ true → may_use h (page_at T.pages p) ≡ true) → T.seats h ≡ S.seats h
+    → ((seat : Seat) → S.seats h ≡ Some seat → KeepsTvm h (tvm_at S seat.tvm) (tvm_at T seat.tvm)) → IsUsable S h held → IsUsable T h held
+usable_kept S T h held pages seats keeps usable = record {
+  pages = all_weaker (λ p. may_use h (page_at S.pages p) ≡ true) (λ p. may_use h (page_at T.pages p) ≡ true) pages held.pages usable.pages;
+  fetches = all_weaker (λ (pair : ℕ × ℕ). Leads S h true pair.0 pair.1) (λ (pair : ℕ × ℕ). Leads T h true pair.0 pair.1)
+      (λ pair leads. leads_kept S T h true pair.0 pair.1 seats keeps leads) held.fetches usable.fetches;
+  accesses = all_weaker (λ (pair : ℕ × ℕ). (own : Bool) × Leads S h own pair.0 pair.1) (λ (pair : ℕ × ℕ). (own : Bool) × Leads T h own pair.0 pair.1)
+      (λ pair leads. (leads.0, leads_kept S T h leads.0 pair.0 pair.1 seats keeps leads.1)) held.accesses usable.accesses;
+}
+
+-- outside TVMs no guest page leads anywhere
+usable_outside : (S T : State) (h : ℕ) (held : Tlb) → S.seats h ≡ None → ((p : ℕ) → may_use h (page_at S.pages p) ≡ true → may_use h (page_at T.pages p) ≡ true)
+    → IsUsable S h held → IsUsable T h held
+usable_outside S T h held outside pages usable = record {
+  pages = all_weaker (λ p. may_use h (page_at S.pages p) ≡ true) (λ p. may_use h (page_at T.pages p) ≡ true) pages held.pages usable.pages;
+  fetches = all_weaker (λ (pair : ℕ × ℕ). Leads S h true pair.0 pair.1) (λ (pair : ℕ × ℕ). Leads T h true pair.0 pair.1) (λ pair leads. absurd (apart leads)) held.fetches usable.fetches;
+  accesses = all_weaker (λ (pair : ℕ × ℕ). (own : Bool) × Leads S h own pair.0 pair.1) (λ (pair : ℕ × ℕ). (own : Bool) × Leads T h own pair.0 pair.1) (λ pair leads. absurd (apart leads.1)) held.accesses usable.accesses;
+}
+  where
+    apart : {own : Bool} {g p : ℕ} → Leads S h own g p → ⊥
+    apart leads = none-some leads.seat (sym outside ∙ leads.sits)
+
+usable_pages : (S T : State) (h : ℕ) (held : Tlb) → ((p : ℕ) → may_use h (page_at S.pages p) ≡ true → may_use h (page_at T.pages p) ≡ true)
+    → IsUsable S h held → IsUsable T h (emptied_by ForgetsGuests held)
+usable_pages S T h held pages usable = record {
+  pages = all_weaker (λ p. may_use h (page_at S.pages p) ≡ true) (λ p. may_use h (page_at T.pages p) ≡ true) pages held.pages usable.pages;
+  fetches = tt;
+  accesses = tt;
+}
+
+-- ---- a call of the hart's own
+
+usable_accepted : (S : State) (h : ℕ) (call : HostCall) (held : Tlb) → h < S.harts → S.seats h ≡ None → IsUsable S h held
+    → (f : Forgets) → (rule S h call).forgets ≡ f → IsUsable (outcome_state S h call) h (emptied_by f held)
+usable_accepted S h call held lt outside usable Keeps e =
+    usable_outside S (outcome_state S h call) h held outside (λ p q. use_call S h call p (subst Spares (sym e) tt) lt q) usable
+usable_accepted S h call held lt outside usable ForgetsGuests e =
+    usable_pages S (outcome_state S h call) h held (λ p q. use_call S h call p (subst Spares (sym e) tt) lt q) usable
+usable_accepted S h call held lt outside usable ForgetsAll e = record { pages = tt; fetches = tt; accesses = tt }
+
+usable_call : (S : State) (h : ℕ) (call : HostCall) (held : Tlb) → h < S.harts → S.seats h ≡ None → IsUsable S h held → (o : Option Reply) → refusal S h call ≡ o
+    → IsUsable (state_by o S (outcome_state S h call)) h (emptied_by (where_accepted (reply_to S h call) (rule S h call).forgets) held)
+usable_call S h call held lt outside usable None e =
+    let success : is_success (reply_to S h call).status ≡ true = ap (λ o. is_success (unwrap_or {T = Reply} o (record { status = Success; value = (rule S h call).outcome.value })).status) e in
+    let f = (rule S h call).forgets in
+    subst (λ b. IsUsable (outcome_state S h call) h (emptied_by (cond b f Keeps) held)) (sym success) (usable_accepted S h call held lt outside usable f refl)
+usable_call S h call held lt outside usable (Some reply) e = usable_emptied S h held (where_accepted (reply_to S h call) (rule S h call).forgets) usable
 
 -- ---- an event of the hart's own
 
-call_pages : (call : HostCall) (accepted : Bool) (held : Tlb) (p : ℕ) → has p (after_call call accepted held).pages ≡ true → has p held.pages ≡ true
-call_pages GlobalFence true held p e = false-true e
-call_pages GlobalFence false held p e = e
-call_pages LocalFence accepted held p e = false-true e
-call_pages (Run t v fuel) true held p e = e
-call_pages (Run t v fuel) false held p e = e
-call_pages _ accepted held p e = e
+usable_host : (script : ScriptValue) (S : State) (h : ℕ) (held : Tlb) (event : Event) → Allows script S h event → h < S.harts → S.seats h ≡ None → IsUsable S h held
+    → IsUsable (host_done S h event) h (emptied_by (forgets_outside S h event) held)
+usable_host script S h held (events.Call call reply) allows lt outside usable =
+    subst (λ (r : Reply). IsUsable (host_done S h (events.Call call reply)) h (emptied_by (where_accepted r (rule S h call).forgets) held)) (sym (host_answer script S h call reply allows outside))
+    (usable_call S h call held lt outside usable (refusal S h call) refl)
+usable_host script S h held (events.Store addr value how) allows lt outside usable =
+    usable_outside S (host_done S h (events.Store addr value how)) h held outside
+    (λ p e. ⊎_elim (λ q. ap (may_use h) q ∙ e) (λ q. ap (may_use h) q ∙ use_stored h (word_place addr) value (page_at S.pages p) e)
+    (change_cases (word_stored (word_place addr) value) (page_of addr) 1 S.pages p)) usable
+usable_host script S h held _ allows lt outside usable = usable
 
--- what a hart held before, or came to now, it could use before
-pub was_usable : (S : State) (h : ℕ) (held : Tlb) (event : Event) (p : ℕ) → Answers S h event → (has p held.pages ≡ true → may_use h (page_at S.pages p) ≡ true) → has p (renewed S held event).pages ≡ true → may_use h (page_at S.pages p) ≡ true
-was_usable S h held (events.Call call reply) p right usable e = usable (call_pages call (is_success reply.status) held p e)
-was_usable S h held (events.Load addr how value) p right usable e = ⊎_elim usable (λ q. subst (λ k. may_use h (page_at S.pages k) ≡ true) q right.0) (has_filled how p (page_of addr) held.pages e)
-was_usable S h held (events.LoadFault addr) p right usable e = usable e
-was_usable S h held (events.Store addr value how) p right usable e = ⊎_elim usable (λ q. subst (λ k. may_use h (page_at S.pages k) ≡ true) q right) (has_filled how p (page_of addr) held.pages e)
-was_usable S h held (events.StoreFault addr value) p right usable e = usable e
-was_usable S h held (events.Fetch how) p right usable e = absurd right
-was_usable S h held events.Exec p right usable e = absurd right
-was_usable S h held (events.Access how) p right usable e = absurd right
-was_usable S h held (events.Guest act reply) p right usable e = absurd right
-was_usable S h held (events.Evidence quote) p right usable e = absurd right
-was_usable S h held (events.Exit exit) p right usable e = absurd right
+-- an event of the hart's own, inside: its seat and the mappings that it may follow stay, or the translations of guests go
+pub data OwnKeeps (S T : State) (h : ℕ) (forgets : Forgets) : Type 0 where
+  KeepsAll : T.seats h ≡ S.seats h → ((seat : Seat) → S.seats h ≡ Some seat → KeepsTvm h (tvm_at S seat.tvm) (tvm_at T seat.tvm)) → OwnKeeps S T h forgets
+  Empties : forgets ≡ ForgetsGuests → OwnKeeps S T h forgets
 
-use_changed : (f : Owner → Owner) (first n : ℕ) (pages : List Owner) (h p : ℕ) → ((o : Owner) → may_use h o ≡ true → may_use h (f o) ≡ true) → may_use h (page_at pages p) ≡ true → may_use h (page_at (change f first n pages) p) ≡ true
-use_changed f first n pages h p kept e = ⊎_elim (λ q. ap (may_use h) q ∙ e) (λ q. ap (may_use h) q ∙ kept (page_at pages p) e) (change_cases f first n pages p)
+forgets_blocking : (S : State) (h t a0 a1 : ℕ) (a : GuestAct) → blocks a ≡ true → (guest_rule S h t a0 a1 a).forgets ≡ ForgetsGuests
+forgets_blocking S h t a0 a1 (acts.Share gpa len) b = refl
+forgets_blocking S h t a0 a1 (acts.Unshare gpa len) b = refl
+forgets_blocking S h t a0 a1 acts.Extend b = absurd (true≢false (sym b))
+forgets_blocking S h t a0 a1 acts.Evidence b = absurd (true≢false (sym b))
+forgets_blocking S h t a0 a1 (acts.Allow id) b = absurd (true≢false (sym b))
+forgets_blocking S h t a0 a1 (acts.Deny id) b = absurd (true≢false (sym b))
+forgets_blocking S h t a0 a1 acts.Other b = absurd (true≢false (sym b))
 
-use_effect : (S : State) (h : ℕ) (held : Tlb) (call : HostCall) (p : ℕ) → h < S.harts → may_use h (page_at S.pages p) ≡ true → has p (after_call call true held).pages ≡ true → may_use h (page_at (effect S h call).pages p) ≡ true
-use_effect S h held (Convert base n) p lt use' e = use_changed (converted (harts_below S.harts)) (base / 4096) n S.pages h p (λ o. use_converted S.harts h o lt) use'
-use_effect S h held GlobalFence p lt use' e = false-true e
-use_effect S h held LocalFence p lt use' e = false-true e
-use_effect S h held (Reclaim base n) p lt use' e = use_changed reclaimed (base / 4096) n S.pages h p (use_reclaimed h) use'
-use_effect S h held _ p lt use' e = use'
-
-use_call : (S : State) (h : ℕ) (held : Tlb) (call : HostCall) (p : ℕ) (o : Option Reply) → h < S.harts → may_use h (page_at S.pages p) ≡ true → has p (after_call call (is_success (unwrap_or {T = Reply} o (record { status = Success; value = value_of S h call })).status) held).pages ≡ true → may_use h (page_at (state_by o S (effect S h call)).pages p) ≡ true
-use_call S h held call p None lt use' e = use_effect S h held call p lt use' e
-use_call S h held call p (Some reply) lt use' e = use'
-
--- and it can use it afterwards
-use_own : (S : State) (h : ℕ) (held : Tlb) (event : Event) (p : ℕ) → h < S.harts → Answers S h event → may_use h (page_at S.pages p) ≡ true → has p (renewed S held event).pages ≡ true → may_use h (page_at (after_event S h event).pages p) ≡ true
-use_own S h held (events.Call call reply) p lt right use' e = use_call S h held call p (refusal S h call) lt use' (subst (λ (r : Reply). has p (after_call call (is_success r.status) held).pages ≡ true) right e)
-use_own S h held (events.Load addr how value) p lt right use' e = use'
-use_own S h held (events.LoadFault addr) p lt right use' e = use'
-use_own S h held (events.Store addr value how) p lt right use' e = use_changed (word_stored (word_place addr) value) (page_of addr) 1 S.pages h p (use_stored h (word_place addr) value) use'
-use_own S h held (events.StoreFault addr value) p lt right use' e = use'
-use_own S h held (events.Fetch how) p lt right use' e = absurd right
-use_own S h held events.Exec p lt right use' e = absurd right
-use_own S h held (events.Access how) p lt right use' e = absurd right
-use_own S h held (events.Guest act reply) p lt right use' e = absurd right
-use_own S h held (events.Evidence quote) p lt right use' e = absurd right
-use_own S h held (events.Exit exit) p lt right use' e = absurd right
-
--- ---- harts of the board
-
-found_line : (pages harts h : ℕ) (ls : List ScriptLine) (n : ℕ) (l : ScriptLine) → AllByRecursion (IsWithin pages harts) ls → slice_get (filter (λ k. eqb k.hart.0 h) ls) n ≡ Some l → (l.hart.0 ≡ h) × IsWithin pages harts l
-found_line pages harts h [] n l all e = absurd (none-some l e)
-found_line pages harts h (x ∷ xs) n l all e = go (eqb x.hart.0 h) refl n e (λ m q. found_line pages harts h xs m l all.1 q)
+act_keeps : (script : ScriptValue) (S : State) (h : ℕ) (seat : Seat) (act : GuestAct) (reply : Reply) → Allows script S h (events.Guest act reply) → S.seats h ≡ Some seat
+    → OwnKeeps S (acted S h seat act) h (forgets_inside S h seat (events.Guest act reply))
+act_keeps script S h seat act reply allows sits = go (blocks act) refl (refusal_by (guest_rule S h seat.tvm (register (cpu_of S seat).x 10) (register (cpu_of S seat).x 11) act)) refl
   where
-    go : (b : Bool) → eqb x.hart.0 h ≡ b → (m : ℕ) → slice_get (cond b (x ∷ filter (λ k. eqb k.hart.0 h) xs) (filter (λ k. eqb k.hart.0 h) xs)) m ≡ Some l → ((j : ℕ) → slice_get (filter (λ k. eqb k.hart.0 h) xs) j ≡ Some l → (l.hart.0 ≡ h) × IsWithin pages harts l) → (l.hart.0 ≡ h) × IsWithin pages harts l
-    go true t zero q more = let same = same_Some x l q in (subst (λ (k : ScriptLine). k.hart.0 ≡ h) same (eqb-true x.hart.0 h t), subst (IsWithin pages harts) same all.0)
-    go true t (suc m) q more = more m q
-    go false t m q more = more m q
+    kept : (blocks act ≡ true → refusal_by (guest_rule S h seat.tvm (register (cpu_of S seat).x 10) (register (cpu_of S seat).x 11) act) ≡ None → ⊥)
+        → OwnKeeps S (acted S h seat act) h (forgets_inside S h seat (events.Guest act reply))
+    kept never = KeepsAll (ap (λ f. f h) (seats_acted S h seat act)) (λ s q. keeps_acted h h S seat s.tvm act (λ b e is. absurd (never b e)))
 
-pub line_on_board : (script : ScriptValue) (h n : ℕ) (l : ScriptLine) → Limits script → next_line script h n ≡ Some l → h < script.harts
-line_on_board script h n l limits e =
-    let f = found_line script.pages script.harts h script.lines n l limits.lines e in
-    subst (λ k. k < script.harts) f.0 f.1.hart
+    go : (b : Bool) → blocks act ≡ b → (o : Option Reply) → refusal_by (guest_rule S h seat.tvm (register (cpu_of S seat).x 10) (register (cpu_of S seat).x 11) act) ≡ o
+        → OwnKeeps S (acted S h seat act) h (forgets_inside S h seat (events.Guest act reply))
+    go false b o e = kept (λ t q. true≢false (sym t ∙ b))
+    go true b (Some r) e = kept (λ t q. none-some r (sym q ∙ e))
+    go true b None e =
+        let r = guest_rule S h seat.tvm (register (cpu_of S seat).x 10) (register (cpu_of S seat).x 11) act in
+        let success : is_success reply.status ≡ true =
+        ap (λ (x : Reply). is_success x.status) (guest_answer script S h seat act reply allows sits)
+        ∙ ap (λ o. is_success (unwrap_or {T = Reply} o (record { status = Success; value = r.outcome.value })).status) e in
+        Empties (ap (λ c. cond c r.forgets Keeps) success ∙ forgets_blocking S h seat.tvm (register (cpu_of S seat).x 10) (register (cpu_of S seat).x 11) act b)
 
-pub entry_on_board : (script : ScriptValue) (H : List Entry) (e : Entry) → Limits script → Allowed script H e → e.hart.0 < script.harts
-entry_on_board script H e limits here =
-    let a = asked_line script (after script H) e.hart.0 (asked e.event) here.0 in
-    let d = due script (after script H) e.hart.0 a.0 a.2 in
-    line_on_board script e.hart.0 (ended_by (after script H) e.hart.0) d.next limits d.found
+pub guest_keeps : (script : ScriptValue) (S : State) (h : ℕ) (seat : Seat) (event : Event) → Allows script S h event → S.seats h ≡ Some seat
+    → OwnKeeps S (guest_done S h seat event) h (forgets_inside S h seat event)
+guest_keeps script S h seat (events.Fetch how) allows sits = KeepsAll refl (λ s q. keeps_seat h S seat _ s.tvm)
+guest_keeps script S h seat events.Exec allows sits =
+    KeepsAll (ap (λ f. f h) (seats_performed S seat (deed_of (cpu_of S seat)))) (λ s q. keeps_performed h S seat (deed_of (cpu_of S seat)) s.tvm)
+guest_keeps script S h seat (events.Access how) allows sits =
+    KeepsAll (ap (λ f. f h) (seats_performed S seat (deed_of (cpu_of S seat)))) (λ s q. keeps_performed h S seat (deed_of (cpu_of S seat)) s.tvm)
+guest_keeps script S h seat (events.Guest act reply) allows sits = act_keeps script S h seat act reply allows sits
+guest_keeps script S h seat (events.Evidence quote) allows sits =
+    KeepsAll (ap (λ f. f h) (seats_acted S h seat GuestAct.Evidence)) (λ s q. keeps_acted h h S seat s.tvm GuestAct.Evidence (λ b e is. absurd (true≢false (sym b))))
+guest_keeps script S h seat (events.Exit exit) allows sits = Empties refl
+guest_keeps script S h seat _ allows sits = KeepsAll refl (λ s q. keeps_same h (tvm_at S s.tvm) (tvm_at S s.tvm) refl)
 
-pub after_harts : (script : ScriptValue) (H : List Entry) → (after script H).harts ≡ script.harts
-after_harts script = from_end (λ H. (after script H).harts ≡ script.harts)
-    (λ H e more. ap (λ (T : State). T.harts) (after_push script H e) ∙ done_harts (after script H) e.hart.0 e.event ∙ more)
-    refl
-
--- a hart that the board does not have holds nothing
-tlb_none : (script : ScriptValue) → Limits script → (H : List Entry) → Legal script H → (h : ℕ) → script.harts ≤ h → tlb script H h ≡ nothing_held
-tlb_none script limits = from_end (λ H. Legal script H → (h : ℕ) → script.harts ≤ h → tlb script H h ≡ nothing_held)
-    (λ H e more legal h le.
-    let lt = entry_on_board script H e limits (legal_last script H e legal) in
-    tlb_other script H e h (λ q. let s = q in omega arith) ∙ more (legal_front script H e legal) h le)
-    (λ legal h le. refl)
-
--- ---- the laws
-
-module _ (script : ScriptValue) (limits : Limits script) where
-  usable_same : (H : List Entry) (e : Entry) → Legal script (H ++ e ∷ []) → ((h p : ℕ) → h < script.harts → has p (tlb script H h).pages ≡ true → may_use h (page_at (after script H).pages p) ≡ true) → (p : ℕ) → has p (tlb script (H ++ e ∷ []) e.hart.0).pages ≡ true → may_use e.hart.0 (page_at (after script (H ++ e ∷ [])).pages p) ≡ true
-  usable_same H e legal more p q =
-      let S = after script H in
-      let here = legal_last script H e legal in
-      let lt = entry_on_board script H e limits here in
-      let board = after_harts script H in
-      let q' = subst (λ (t : Tlb). has p t.pages ≡ true) (tlb_same script H e e.hart.0 refl) q in
-      let before = was_usable S e.hart.0 (tlb script H e.hart.0) e.event p here.1 (more e.hart.0 p lt) q' in
-      subst (λ (T : State). may_use e.hart.0 (page_at T.pages p) ≡ true) (sym (after_push script H e))
-      (use_own S e.hart.0 (tlb script H e.hart.0) e.event p (subst (λ n. e.hart.0 < n) (sym board) lt) here.1 before q')
-
-  usable_board : (H : List Entry) → Legal script H → (h p : ℕ) → h < script.harts → has p (tlb script H h).pages ≡ true → may_use h (page_at (after script H).pages p) ≡ true
-  usable_board = from_end (λ H. Legal script H → (h p : ℕ) → h < script.harts → has p (tlb script H h).pages ≡ true → may_use h (page_at (after script H).pages p) ≡ true)
-      (λ H e more legal h p lt q.
-      let front = more (legal_front script H e legal) in
-      let board = after_harts script H in
-      ⊎_elim
-      (λ same. subst (λ k. may_use k (page_at (after script (H ++ e ∷ [])).pages p) ≡ true) same
-      (usable_same H e legal front p (subst (λ k. has p (tlb script (H ++ e ∷ []) k).pages ≡ true) (sym same) q)))
-      (λ ne. subst (λ (T : State). may_use h (page_at T.pages p) ≡ true) (sym (after_push script H e))
-      (use_other (after script H) e.hart.0 h p e.event (sound script H) (subst (λ n. h < n) (sym board) lt) (λ s. ne (sym s))
-      (front h p lt (subst (λ (t : Tlb). has p t.pages ≡ true) (tlb_other script H e h ne) q))))
-      (cases_eq e.hart.0 h))
-      (λ legal h p lt q. false-true q)
-
-  held_on_board : (H : List Entry) → Legal script H → (h p : ℕ) → has p (tlb script H h).pages ≡ true → h < script.harts
-  held_on_board H legal h p q = ⊎_elim (λ lt. lt) (λ le. false-true (ap (λ (t : Tlb). has p t.pages) (sym (tlb_none script limits H legal h le)) ∙ q)) (cases_lt h script.harts)
-
-  -- a page that a hart holds is one that it may use
-  pub usable : (H : List Entry) → Legal script H → (h p : ℕ) → has p (tlb script H h).pages ≡ true → may_use h (page_at (after script H).pages p) ≡ true
-  usable H legal h p q = usable_board H legal h p (held_on_board H legal h p q) q
-
--- a page that was the host's since the hart's last entry is one that it may use
-silent_parts : (since : List Entry) (e : Entry) (h : ℕ) → own (since ++ e ∷ []) h ≡ [] → (own since h ≡ []) × (e.hart.0 ≡ h → ⊥)
-silent_parts since e h s = ⊎_elim
-    (λ same. absurd (not_nil (own since h) e (sym (own_same since e h same) ∙ s)))
-    (λ ne. (sym (own_other since e h ne) ∙ s, ne))
-    (cases_eq e.hart.0 h)
+usable_guest : (script : ScriptValue) (S : State) (h : ℕ) (seat : Seat) (held : Tlb) (event : Event) → Allows script S h event → S.seats h ≡ Some seat → IsUsable S h held
+    → IsUsable (guest_done S h seat event) h (emptied_by (forgets_inside S h seat event) held)
+usable_guest script S h seat held event allows sits usable = go (guest_keeps script S h seat event allows sits)
   where
-    not_nil : (xs : List Entry) (x : Entry) → xs ++ x ∷ [] ≡ [] → ⊥
-    not_nil [] x q = cc
-    not_nil (y ∷ ys) x q = cc
+    pages : (p : ℕ) → may_use h (page_at S.pages p) ≡ true → may_use h (page_at (guest_done S h seat event).pages p) ≡ true
+    pages p e = use_wrote S (guest_done S h seat event) h p (wrote_guest S h seat p event) e
 
-since_host : (script : ScriptValue) (earlier : List Entry) (h p : ℕ) → h < script.harts → is_host (page_at (after script earlier).pages p) ≡ true → (since : List Entry) → own since h ≡ [] → may_use h (page_at (after script (earlier ++ since)).pages p) ≡ true
-since_host script earlier h p lt host = from_end (λ since. own since h ≡ [] → may_use h (page_at (after script (earlier ++ since)).pages p) ≡ true)
-    (λ since e more s.
-    let parts = silent_parts since e h s in
-    let H = earlier ++ since in
-    let whole : earlier ++ (since ++ e ∷ []) ≡ H ++ e ∷ [] = sym (append_assoc earlier since (e ∷ [])) in
-    subst (λ (T : State). may_use h (page_at T.pages p) ≡ true) (sym (ap (after script) whole ∙ after_push script H e))
-    (use_other (after script H) e.hart.0 h p e.event (sound script H) (subst (λ n. h < n) (sym (after_harts script H)) lt) (λ q. parts.1 (sym q)) (more parts.0)))
-    (λ s. subst (λ H. may_use h (page_at (after script H).pages p) ≡ true) (sym (append-nil earlier)) (use_host h (page_at (after script earlier).pages p) host))
+    go : OwnKeeps S (guest_done S h seat event) h (forgets_inside S h seat event) → IsUsable (guest_done S h seat event) h (emptied_by (forgets_inside S h seat event) held)
+    go (KeepsAll seats keeps) = usable_emptied (guest_done S h seat event) h held (forgets_inside S h seat event) (usable_kept S (guest_done S h seat event) h held pages seats keeps usable)
+    go (Empties e) = subst (λ f. IsUsable (guest_done S h seat event) h (emptied_by f held)) (sym e) (usable_pages S (guest_done S h seat event) h held pages usable)
 
-pub held_since : (script : ScriptValue) (H : List Entry) (h p : ℕ) → h < script.harts → WasHost script H h p → may_use h (page_at (after script H).pages p) ≡ true
-held_since script H h p lt was = subst (λ k. may_use h (page_at (after script k).pages p) ≡ true) (sym was.split) (since_host script was.earlier h p lt was.host was.since was.silent)
+usable_done : (script : ScriptValue) (S : State) (h : ℕ) (held : Tlb) (event : Event) → Allows script S h event → h < S.harts → IsUsable S h held
+    → IsUsable (done S h event) h (emptied_by (forgets_by S h event) held)
+usable_done script S h held event allows lt usable = go (S.seats h) refl
+  where
+    go : (o : Option Seat) → S.seats h ≡ o → IsUsable (done_at S h o event) h (emptied_by (forgets_at S h o event) held)
+    go None e = usable_host script S h held event allows lt e usable
+    go (Some seat) e = usable_guest script S h seat held event allows e usable
+
+usable_line : (h k : ℕ) (o : Option Seat) (S : State) (held : Tlb) → IsUsable S k held → IsUsable (line_ended h o S) k held
+usable_line h k None S held usable =
+    usable_kept S (end_line h S) k held (λ p e. e) refl (λ s q. keeps_same k (tvm_at S s.tvm) (tvm_at S s.tvm) refl) usable
+usable_line h k (Some seat) S held usable = usable
+
+-- what a hart holds after an event of its own it may use
+pub usable_own : (script : ScriptValue) (S : State) (h : ℕ) (held : Tlb) (event : Event) → Allows script S h event → h < S.harts → IsUsable S h held
+    → IsUsable (after_event S h event) h (renewed S h held event)
+usable_own script S h held event allows lt usable =
+    usable_line h h ((done S h event).seats h) (done S h event) (renewed S h held event)
+    (usable_done script S h (with_touched S h (touched S h event) held) event allows lt (usable_touched S h held (touched S h event) (fair script S h event allows) usable))
+
+-- and what it holds it may use after an event of another hart
+pub usable_other : (S : State) (h k : ℕ) (held : Tlb) (event : Event) → IsSound S → h < S.harts → (h ≡ k → ⊥) → IsUsable S h held → IsUsable (after_event S k event) h held
+usable_other S h k held event sound lt ne usable =
+    usable_line k h ((done S k event).seats k) (done S k event) held
+    (usable_kept S (done S k event) h held
+    (λ p e. use_move S (done S k event) k h (page_at S.pages p) (page_at (done S k event).pages p) (moves S k event p) (sound.pages_sound p) lt ne e)
+    (seat_other S k h event ne)
+    (λ seat sits. keeps_done S h seat k event sound (record { on_board = lt; sits = sits }) ne) usable)
+
+-- the end of a line leaves what leads
+pub leads_line : (h k : ℕ) (o : Option Seat) (S : State) (own : Bool) (g p : ℕ) → Leads S k own g p → Leads (line_ended h o S) k own g p
+leads_line h k None S own g p leads = record { seat = leads.seat; sits = leads.sits; mapping = leads.mapping; found = leads.found; kind = leads.kind; shows = leads.shows; follows = leads.follows }
+leads_line h k (Some seat) S own g p leads = leads
+
+-- what led before an event leads after it, in the same TVM
+pub record LeadsOn (S T : State) (h : ℕ) (own : Bool) (g p : ℕ) (leads : Leads S h own g p) : Type 0 where
+  pub later : Leads T h own g p
+  pub same : later.seat.tvm ≡ leads.seat.tvm
+
+pub leads_on : (S T : State) (k : ℕ) (o : Option Seat) (h : ℕ) (own : Bool) (g p : ℕ) → T.seats h ≡ S.seats h
+    → ((seat : Seat) → S.seats h ≡ Some seat → KeepsTvm h (tvm_at S seat.tvm) (tvm_at T seat.tvm)) → (leads : Leads S h own g p) → LeadsOn S (line_ended k o T) h own g p leads
+unfolding leads_line leads_kept
+leads_on S T k None h own g p seats keeps leads = let l = leads_kept S T h own g p seats keeps leads in record { later = leads_line k h None T own g p l; same = refl }
+leads_on S T k (Some seat) h own g p seats keeps leads = record { later = leads_kept S T h own g p seats keeps leads; same = refl }
+
+-- an entry of a hart: each pair that it holds afterwards leads on, where it led before
+pub leads_own : (script : ScriptValue) (S : State) (h : ℕ) (held : Tlb) (event : Event) → Allows script S h event
+    → ((own : Bool) (g p : ℕ) (leads : Leads S h own g p) → LeadsOn S (after_event S h event) h own g p leads) ⊎ (((renewed S h held event).fetches ≡ []) × ((renewed S h held event).accesses ≡ []))
+leads_own script S h held event allows = go (S.seats h) refl (done S h event) refl (forgets_by S h event) refl
+  where
+    none : (f : Forgets) (t : Tlb) → f ≡ ForgetsGuests → ((emptied_by f t).fetches ≡ []) × ((emptied_by f t).accesses ≡ [])
+    none f t e = (ap (λ x. (emptied_by x t).fetches) e, ap (λ x. (emptied_by x t).accesses) e)
+
+    inside : (seat : Seat) → S.seats h ≡ Some seat → (T : State) → guest_done S h seat event ≡ T → (f : Forgets) → forgets_inside S h seat event ≡ f → OwnKeeps S (guest_done S h seat event) h (forgets_inside S h seat event)
+        → ((own : Bool) (g p : ℕ) (leads : Leads S h own g p) → LeadsOn S (line_ended h (T.seats h) T) h own g p leads)
+        ⊎ (((emptied_by f (with_touched S h (touched S h event) held)).fetches ≡ []) × ((emptied_by f (with_touched S h (touched S h event) held)).accesses ≡ []))
+    inside seat sits T is f fs (KeepsAll seats keeps) =
+        let Q : State → Type 0 = λ U. (own : Bool) (g p : ℕ) (leads : Leads S h own g p) → LeadsOn S (line_ended h (U.seats h) U) h own g p leads in
+        inl (subst Q is (λ own g p leads. leads_on S (guest_done S h seat event) h ((guest_done S h seat event).seats h) h own g p seats keeps leads))
+    inside seat sits T is f fs (Empties e) = inr (none f (with_touched S h (touched S h event) held) (sym fs ∙ e))
+
+    go : (o : Option Seat) → S.seats h ≡ o → (T : State) → done_at S h o event ≡ T → (f : Forgets) → forgets_at S h o event ≡ f
+        → ((own : Bool) (g p : ℕ) (leads : Leads S h own g p) → LeadsOn S (line_ended h (T.seats h) T) h own g p leads)
+        ⊎ (((emptied_by f (with_touched S h (touched S h event) held)).fetches ≡ []) × ((emptied_by f (with_touched S h (touched S h event) held)).accesses ≡ []))
+    go None outside T is f fs = inl (λ own g p leads. absurd (none-some leads.seat (sym outside ∙ leads.sits)))
+    go (Some seat) sits T is f fs = inside seat sits T is f fs (guest_keeps script S h seat event allows sits)

@@ -3,10 +3,13 @@ use Rattle.cove_base.specs.declared.events.Entry.{Entry}
 use Rattle.cove_base.specs.declared.events.How.TheVariants.{Hit, Walk}
 use Rattle.cove_base.specs.declared.calls.HostCall.TheVariants.{LocalFence}
 use Rattle.cove_base.specs.declared.statuses.Status.TheVariants.{Success}
+use Rattle.cove_model.proofs.Loads.{load_told}
 use Rattle.cove_model.specs.Cached.{IsCached, IsQuiet}
 use Rattle.cove_model.specs.Examples.{and_back, board, during_a_fence, during_a_fence_history, early_walk, early_walk_history, ended_hits, ended_hits_history, faulted, fence, held_before, held_before_history, last_answer, last_answer_history, late, late_history, load, loaded, local_fence, long_fill, once_free, said, short_fill, stale, stale_history, there_and_back, there_and_back_history, to_the_monitor, two_harts}
 use Rattle.cove_model.specs.Histories.{Legal, after, own}
-use Rattle.cove_model.specs.Owners.{Holder, OfTvm, TheHost, TheMonitor, is_host, page_at, zeros}
+use Rattle.cove_model.specs.Owners.{Holder, OfTvm, TheHost, TheMonitor, zeros}
+use Rattle.cove_model.specs.Offers.{is_found}
+use Rattle.cove_base.specs.declared.walks.Target.TheVariants.{Host}
 use Rattle.cove_model.specs.Played.{played}
 use Rattle.cove_model.specs.States.{opening, opening_words, word_at}
 use Rattle.std.proofs.Common.{List, [], ap, arith, drop, refl, slice_index, sym, take, true, true≢false, false, ℕ, Bool, ◌++◌, ◌∙◌, ◌∷◌, ◌≡◌, ◌≢◌}
@@ -91,7 +94,7 @@ last_answer_played = refl
 
 -- a load shows the word of the opening memory
 pub other_word : Legal (board 1 [] (load 0 0x4000 ∷ []) []) (loaded 0 0x4000 Walk 5 ∷ []) → ⊥
-other_word legal = five (legal.0.1.1 ∙ zero_word)
+other_word legal = five ((load_told (board 1 [] (load 0 0x4000 ∷ []) []) (opening (board 1 [] (load 0 0x4000 ∷ []) [])) 0 0x4000 Walk 5 legal.0).1 ∙ zero_word)
   where
     five : ◌≡◌ {A = ℕ} 5 0 → ⊥
     five e = absurd (omega arith)
@@ -100,7 +103,7 @@ other_word legal = five (legal.0.1.1 ∙ zero_word)
 abbrev late_front : List Entry
 late_front = take 2 late_history
 
-never_late : (earlier since : List Entry) → late_front ≡ earlier ++ since → own since 1 ≡ [] → is_host (page_at (after late earlier).pages 4) ≡ true → ⊥
+never_late : (earlier since : List Entry) → late_front ≡ earlier ++ since → own since 1 ≡ [] → is_found (after late earlier) 1 (Host (record { 0 = 4 })) ≡ true → ⊥
 never_late [] since split silent host = some (ap (λ xs. own xs 1) split ∙ silent)
   where
     some : said 1 LocalFence Success 0 ∷ [] ≡ [] → ⊥
@@ -111,14 +114,14 @@ never_late (x ∷ []) since split silent host = some (ap (λ xs. own (drop 1 xs)
     some e = cc
 never_late (x ∷ y ∷ []) since split silent host =
     let whole = ap (take 2) split in
-    true≢false (sym host ∙ ap (λ xs. is_host (page_at (after late xs).pages 4)) (sym whole))
+    true≢false (sym host ∙ ap (λ xs. is_found (after late xs) 1 (Host (record { 0 = 4 }))) (sym whole))
 never_late (x ∷ y ∷ z ∷ earlier) since split silent host = none (ap (drop 2) split)
   where
     none : [] ≡ z ∷ (earlier ++ since) → ⊥
     none e = cc
 
 pub late_walk : IsCached late late_history → ⊥
-late_walk cached = let was = cached.1.1.0.1 in never_late was.earlier was.since was.split was.silent was.host
+late_walk cached = let was = cached.1.1.0.1 in never_late was.earlier was.since was.split was.silent was.found
 
 -- ---- what is not quiet
 

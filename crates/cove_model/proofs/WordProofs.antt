@@ -10,6 +10,8 @@ use Rattle.cove_model.specs.WordLaws.{ConvertStands, GlobalFenceStands, LocalFen
 use Rattle.cove_model.proofs.Runs.{every_at}
 use Rattle.cove_model.proofs.HartLists.{others_behind, without-behind}
 use Rattle.cove_model.proofs.PageLaws.{converted_page, fenced_page, answered_page}
+use Rattle.cove_model.proofs.SharedPages.{free_not_shared}
+use Rattle.cove_model.proofs.ToldProofs.{maps_none}
 use Rattle.cove_model.proofs.StandLemmas.{host_page, free_page, filled_stand, answered_stand}
 
 converted_tables : (harts : List ℕ) (o : Owner) → is_table (converted harts o) ≡ false → is_table o ≡ false
@@ -52,13 +54,14 @@ convert_stands pages harts words S hart base n some inside all stand =
     filled_stand pages harts words S (converted (harts_below S.harts)) first n (converting epoch) inside (converted_tables (harts_below S.harts)) each stand
 
 pub reclaim_stands : ReclaimStands
-reclaim_stands pages harts words S hart base n inside all stand =
+reclaim_stands pages harts words S hart base n inside all sound stand =
     let first = base / 4096 in
     let long : length S.pages ≡ pages = stand.stands.owners.page_count in
     let each : (p : ℕ) → first ≤ p → p < first + n → p < pages → PageStands harts (epoch_in pages words) (answered_in pages words) (maps_of S p) (host 0) (reclaimed (page_at S.pages p)) =
     λ p low high within.
     let was = free_page (page_at S.pages p) (every_at _ first n S.pages all p low high (omega arith)) in
-    subst (λ o. PageStands harts (epoch_in pages words) (answered_in pages words) (maps_of S p) (host 0) (reclaimed o)) (sym was) refl in
+    subst (λ o. PageStands harts (epoch_in pages words) (answered_in pages words) (maps_of S p) (host 0) (reclaimed o)) (sym was)
+    (ap host (sym (maps_none S p (free_not_shared S p sound was)))) in
     filled_stand pages harts words S reclaimed first n (host 0) inside reclaimed_tables each stand
 
 pub global_fence_stands : GlobalFenceStands

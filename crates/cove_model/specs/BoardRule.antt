@@ -1,7 +1,7 @@
 -- What holds of the shared words, the history and what each hart holds, also while a hart that is held stores. It is
--- said of host pages: there are no guests yet.
-use Rattle.std.specs.Prelude.{◌≡◌, ◌≢◌, ℕ, ◌<◌, ◌≤◌, ◌⊎◌, List, [], ◌∷◌, ◌++◌, IsSome, IsTrue, Option, Some, None, length, slice_index, slice_set}
-use Rattle.cove_base.specs.HartValues.{HartValue}
+-- said of host pages, and of the moment of each walk; the tables of TVMs have no part in it yet.
+use Rattle.std.specs.Prelude.{◌≡◌, ◌≢◌, ℕ, ◌<◌, ◌⊎◌, List, [], ◌∷◌, ◌++◌, IsSome, IsTrue, Option, Some, None, length, slice_index, slice_set}
+use Rattle.cove_base.specs.HartValues.{HartValue, Holding, holding}
 use Rattle.cove_base.specs.PageWords.{IsHostWord}
 use Rattle.cove_base.specs.Places.{page_word, count_word, all_words}
 use Rattle.cove_base.specs.Rings.{found}
@@ -14,15 +14,15 @@ use Rattle.cove_base.specs.declared.numbers.Page.{Page}
 use Rattle.cove_base.specs.declared.walks.Noted.{Noted}
 use Rattle.cove_base.specs.declared.walks.Target.{Target}
 use Rattle.cove_base.specs.declared.walks.Target.TheVariants.{Host, Fetch, Access}
-use Rattle.cove_model.specs.Cached.{IsCached, WasHost}
-use Rattle.cove_model.specs.Fits.{Fits, ring_of, walked_ring}
+use Rattle.cove_model.specs.Cached.{IsCached, WasFound}
+use Rattle.cove_model.specs.Fits.{Fits, WasLed, rings_of, walked_rings}
 use Rattle.cove_model.specs.Histories.{Legal, after}
 use Rattle.cove_model.specs.LawfulCounts.{IsCountable, counted}
 use Rattle.cove_model.specs.LawfulStores.{Tables, IsLawful, MakesLawful}
 use Rattle.cove_model.specs.StoreLaw.{MayUse}
-use Rattle.cove_model.specs.Tlbs.{tlb}
+use Rattle.cove_model.specs.Translations.{tlb}
 use Rattle.cove_model.specs.WordLaws.{AnswersWithin}
-use Rattle.cove_model.specs.WordsStand.{WordsStand, epoch_in}
+use Rattle.cove_model.specs.WordsStand.{FencesWithin, WordsStand}
 
 -- The monitor's part. The history is legal and cached; the words as they were at its last entry stand for the state
 -- after it, and no more fences had begun than it has entries; the count is the number of its entries.
@@ -30,30 +30,30 @@ pub record IsMonitored (script : ScriptValue) (history : List Entry) (old now : 
   pub legal : Legal script history
   pub cached : IsCached script history
   pub stands : WordsStand script.pages script.harts old (after script history)
-  pub fences : epoch_in script.pages old ≤ length history
+  pub fences : FencesWithin script.pages script.harts old (length history)
   pub count : slice_index now (count_word script.pages script.harts) ≡ length history
   pub size : length now ≡ all_words script.pages script.harts
 
 -- no hart has answered a later epoch than the last, and no more fences began than a history may have entries
 pub record AreBounded (pages harts : ℕ) (words : List ℕ) : Type 0 where
   pub within : AnswersWithin pages harts words
-  pub epoch : epoch_in pages words ≤ ENTRY_LIMIT
+  pub fences : FencesWithin pages harts words ENTRY_LIMIT
 
--- a page that an unused walk found has the word of a page of the host's, or was the host's at a moment since the
--- hart's last entry
+-- a host page that an unused walk found has the word of a page of the host's, or was the host's at a moment since the
+-- hart's last entry; a walk to a guest page found it then
 abbrev pub WalkLives : ScriptValue → (history : List Entry) (words : List ℕ) (hart : ℕ) → Target → Walked → Type 0
 WalkLives script history words hart (Host p) (Found page) =
     (page ≡ p) × (p.0 < script.pages)
-    × (IsHostWord (slice_index words (page_word p.0)) ⊎ WasHost script history hart p.0)
-WalkLives script history words hart (Host p) (Missing word) = Unit {0}
-WalkLives script history words hart (Fetch g) walked = ⊥
-WalkLives script history words hart (Access g) walked = ⊥
+    × (IsHostWord (slice_index words (page_word p.0)) ⊎ WasFound script history hart (Host p))
+WalkLives script history words hart (Fetch g) (Found page) = WasLed script history hart (Fetch g) page
+WalkLives script history words hart (Access g) (Found page) = WasLed script history hart (Access g) page
+WalkLives script history words hart target (Missing word) = Unit {0}
 
 abbrev pub UnusedLives : ScriptValue → (history : List Entry) (words : List ℕ) (hart : ℕ) → Option Noted → Type 0
 UnusedLives script history words hart None = Unit {0}
 UnusedLives script history words hart (Some noted) = WalkLives script history words hart noted.target noted.walked
 
--- a walk that was not used yet found this page
+-- a walk that was not used yet found this host page
 abbrev pub FindsPage : Target → Walked → (p : ℕ) → Type 0
 FindsPage (Host q) (Found page) p = q.0 ≡ p
 FindsPage (Host q) (Missing word) p = ⊥
@@ -64,18 +64,18 @@ abbrev pub HasFound : Option Noted → (p : ℕ) → Type 0
 HasFound None p = ⊥
 HasFound (Some noted) p = FindsPage noted.target noted.walked p
 
--- a hart names a page by its ring, or by a walk that it has not used yet
-abbrev pub Names : HartValue → (p : ℕ) → Type 0
-Names held p = IsSome (found p held.hosts) ⊎ HasFound held.walked p
+-- a hart names a host page by its ring, or by a walk that it has not used yet
+abbrev pub Names : Holding → (p : ℕ) → Type 0
+Names held p = IsSome (found p held.rings.hosts) ⊎ HasFound held.walked p
 
--- The part of a hart of the board, by what it holds. Each page that its ring names is one of the board that the hart
--- may use by the words: it is the host's, or in conversion, and the hart has answered no later epoch. Its ring is its
--- translations with the page of an unused walk.
-pub record IsLive (script : ScriptValue) (history : List Entry) (words : List ℕ) (held : HartValue) : Type 0 where
+-- The part of a hart of the board, by what it holds. Each page that its ring of host pages names is one of the board that
+-- the hart may use by the words: it is the host's, or in conversion, and the hart has answered no later epoch. Its rings
+-- are its translations with the page of an unused walk.
+pub record IsLive (script : ScriptValue) (history : List Entry) (words : List ℕ) (held : Holding) : Type 0 where
   pub on_board : held.hart < script.harts
-  pub usable : (p : ℕ) → IsSome (found p held.hosts) → (p < script.pages) × MayUse script.pages words held.hart p
+  pub usable : (p : ℕ) → IsSome (found p held.rings.hosts) → (p < script.pages) × MayUse script.pages words held.hart p
   pub walk : UnusedLives script history words held.hart held.walked
-  pub ring : held.hosts ≡ walked_ring (ring_of (tlb script history held.hart).pages) held.walked
+  pub rings : held.rings ≡ walked_rings (rings_of (tlb script history held.hart)) held.walked
 
 -- A lawful store of one hart keeps the rule of every other hart, whatever that one does meanwhile.
 abbrev pub StoresKeepRule : Type 0
@@ -85,7 +85,7 @@ StoresKeepRule =
     → IsLawful script.pages script.harts tables hart old now place word
     → IsMonitored script history old (slice_set now place word)
     × AreBounded script.pages script.harts (slice_set now place word)
-    × ((other : HartValue) → other.hart ≢ hart
+    × ((other : Holding) → other.hart ≢ hart
     → IsLive script history now other → IsLive script history (slice_set now place word) other)
 
 -- So does each list of lawful stores.
@@ -96,7 +96,7 @@ ListsKeepRule =
     → MakesLawful script.pages script.harts tables hart old now new
     → IsMonitored script history old new
     × AreBounded script.pages script.harts new
-    × ((other : HartValue) → other.hart ≢ hart → IsLive script history now other → IsLive script history new other)
+    × ((other : Holding) → other.hart ≢ hart → IsLive script history now other → IsLive script history new other)
 
 -- And so does the store of the count, for an entry of that hart; the words are then those at the last entry.
 abbrev pub CountsKeepRule : Type 0
@@ -107,7 +107,7 @@ CountsKeepRule =
     → let new = counted script.pages script.harts now in
     IsMonitored script (history ++ entry ∷ []) new new
     × AreBounded script.pages script.harts new
-    × ((other : HartValue) → other.hart ≢ hart
+    × ((other : Holding) → other.hart ≢ hart
     → IsLive script history now other → IsLive script (history ++ entry ∷ []) new other)
 
 -- Where no store is pending, the rule holds of each hart that fits the history.
@@ -115,20 +115,20 @@ abbrev pub FittingHartsLive : Type 0
 FittingHartsLive =
     (script : ScriptValue) (history : List Entry) (words : List ℕ) (held : HartValue)
     → IsTrue (is_within_limits script) → IsMonitored script history words words
-    → Fits script history held → IsLive script history words held
+    → Fits script history held → IsLive script history words (holding held)
 
 -- So each page that such a hart names, by its ring or by an unused walk, is one of the board that it may use.
 abbrev pub FittingHartsUse : Type 0
 FittingHartsUse =
     (script : ScriptValue) (history : List Entry) (words : List ℕ) (held : HartValue) (p : ℕ)
     → IsTrue (is_within_limits script) → IsMonitored script history words words
-    → Fits script history held → Names held p → (p < script.pages) × MayUse script.pages words held.hart p
+    → Fits script history held → Names (holding held) p → (p < script.pages) × MayUse script.pages words held.hart p
 
 -- And a walk of a hart of which it holds was right: the page that it found was the host's at a moment since the
 -- hart's last entry, also where it was made while another hart stored.
 abbrev pub LiveWalksWereRight : Type 0
 LiveWalksWereRight =
-    (script : ScriptValue) (history : List Entry) (words : List ℕ) (held : HartValue) (p page : Page)
+    (script : ScriptValue) (history : List Entry) (words : List ℕ) (held : Holding) (p page : Page)
     → IsMonitored script history words words → IsLive script history words held
     → held.walked ≡ Some (record { target = Host p; walked = Found page })
-    → WasHost script history held.hart p.0
+    → WasFound script history held.hart (Host p)

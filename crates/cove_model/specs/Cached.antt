@@ -1,38 +1,35 @@
 -- Each printed hit and walk is right, and no page changes hands while a hart may still use it.
-use Rattle.std.specs.Prelude.{◌≡◌, ◌≢◌, ℕ, true, false, List, [], ◌∷◌, ◌++◌, Option, Some, None}
-use Rattle.cove_model.specs.Types.{ScriptValue, Entry, Event, How, Hit, Walk}
+use Rattle.std.specs.Prelude.{◌≡◌, ◌≢◌, ℕ, true, false, List, [], ◌∷◌, ◌++◌, Some, None}
+use Rattle.cove_base.specs.declared.walks.Target.{Target}
+use Rattle.cove_model.specs.Owners.{holder, page_at}
+use Rattle.cove_model.specs.Types.{ScriptValue, Entry, Event, Hit, Walk}
 use Rattle.cove_model.specs.Histories.{EachEntry, after, own}
-use Rattle.cove_model.specs.Owners.{has, is_host, holder, page_at}
-use Rattle.cove_model.specs.States.{page_of}
-use Rattle.cove_model.specs.Tlbs.{tlb, names}
+use Rattle.cove_model.specs.Offers.{is_found}
+use Rattle.cove_model.specs.Translations.{Touched, Way, Came, Failed, holds_target, names, tlb, touched}
 
--- a page was the host's at a moment since the hart's last entry
-pub record WasHost (script : ScriptValue) (history : List Entry) (hart p : ℕ) : Type 0 where
+-- a walk found the target at a moment since the hart's last entry
+pub record WasFound (script : ScriptValue) (history : List Entry) (hart : ℕ) (target : Target) : Type 0 where
   pub earlier : List Entry
   pub since : List Entry
   pub split : history ≡ earlier ++ since
   pub silent : own since hart ≡ []
-  pub host : is_host (page_at (after script earlier).pages p) ≡ true
+  pub found : is_found (after script earlier) hart target ≡ true
 
--- an access of a hart to a page comes to a hit, to a walk or to a fault: a hit exactly where the hart holds the page
-abbrev pub Reaches : ScriptValue → (history : List Entry) (hart p : ℕ) → Option How → Type 0
-Reaches script history h p (Some Hit) = has p (tlb script history h).pages ≡ true
-Reaches script history h p (Some Walk) = (has p (tlb script history h).pages ≡ false) × WasHost script history h p
-Reaches script history h p None = has p (tlb script history h).pages ≡ false
+-- an access of a hart to a target comes by a hit, by a walk or not at all: a hit exactly where the hart holds the target
+abbrev pub Reaches : ScriptValue → (history : List Entry) (hart : ℕ) → Target → Way → Type 0
+Reaches script history h target (Came Hit) = holds_target (tlb script history h) target ≡ true
+Reaches script history h target (Came Walk) =
+    (holds_target (tlb script history h) target ≡ false) × WasFound script history h target
+Reaches script history h target Failed = holds_target (tlb script history h) target ≡ false
 
--- what an event shows of the translations is right; no guest fetches or accesses yet
+-- what an event looked for is right
+abbrev pub ReachesWhere : ScriptValue → (history : List Entry) (hart : ℕ) → Touched → Type 0
+ReachesWhere script history h None = Unit {0}
+ReachesWhere script history h (Some (target, way)) = Reaches script history h target way
+
+-- what an event of a hart shows of its translations is right
 abbrev pub IsReached : ScriptValue → (history : List Entry) (hart : ℕ) → Event → Type 0
-IsReached script history h (Event.Call call reply) = Unit {0}
-IsReached script history h (Event.Load addr how value) = Reaches script history h (page_of addr) (Some how)
-IsReached script history h (Event.LoadFault addr) = Reaches script history h (page_of addr) None
-IsReached script history h (Event.Store addr value how) = Reaches script history h (page_of addr) (Some how)
-IsReached script history h (Event.StoreFault addr value) = Reaches script history h (page_of addr) None
-IsReached script history h (Event.Fetch how) = ⊥
-IsReached script history h Event.Exec = Unit {0}
-IsReached script history h (Event.Access how) = ⊥
-IsReached script history h (Event.Guest act reply) = Unit {0}
-IsReached script history h (Event.Evidence quote) = Unit {0}
-IsReached script history h (Event.Exit exit) = Unit {0}
+IsReached script history h event = ReachesWhere script history h (touched (after script history) h event)
 
 -- every hit, walk and fault of a history is right
 abbrev pub IsCached : ScriptValue → List Entry → Type 0

@@ -1,7 +1,7 @@
 -- Scripts and histories to read: what the definitions give of them is proved by computing it.
 use Rattle.std.specs.Prelude.{Option, Some, ℕ, ◌*◌, List, [], ◌∷◌, map, flat_map}
 use Rattle.cove_model.specs.Types.{ScriptValue, HostCall, Convert, GlobalFence, LocalFence, Reclaim, Entry, How, Hit, Walk, Fill, ScriptLine, Reply, Status, Success, AlreadyStarted, InvalidAddress, Event, Line}
-use Rattle.cove_model.specs.Effects.{state_after}
+use Rattle.cove_model.specs.Answers.{state_after}
 use Rattle.cove_model.specs.Played.{entry_by}
 use Rattle.cove_model.specs.Reports.{ended_line}
 use Rattle.cove_model.specs.States.{State, opening}

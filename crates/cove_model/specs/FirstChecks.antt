@@ -5,8 +5,8 @@ use Rattle.cove_model.specs.Types.{Reply}
 use Rattle.cove_model.specs.Refusals.{Check}
 
 -- what a check that fails answers
-abbrev pub refusal_by : Check → Reply
-refusal_by check = record { status = check.status; value = check.value }
+abbrev pub reply_of : Check → Reply
+reply_of check = record { status = check.status; value = check.value }
 
 -- every check passes
 abbrev pub AllPassed : List Check → Type 0

@@ -1,5 +1,5 @@
 -- Which stores to the shared words a hart may make while it is held.
-use Rattle.std.specs.Prelude.{◌≡◌, ℕ, ◌+◌, ◌*◌, ◌^◌, ◌<◌, ◌≤◌, ◌⊎◌, List, Contains, slice_index}
+use Rattle.std.specs.Prelude.{◌≡◌, ℕ, ◌+◌, ◌*◌, ◌^◌, ◌<◌, ◌≤◌, ◌⊎◌, List, [], Contains, slice_index}
 use Rattle.cove_base.specs.PageWords.{host, converting, given, released}
 use Rattle.cove_base.specs.Places.{page_word, table_word, epoch_word, answered_word, hart_word}
 use Rattle.cove_base.specs.Stores.{Leads}
@@ -23,6 +23,10 @@ pub record Link : Type 0 where
 pub record Tables : Type 0 where
   pub root : ℕ
   pub links : List Link
+
+-- the tables of each TVM where none has any
+abbrev pub no_tables : (tvm : ℕ) → Tables
+no_tables tvm = record { root = 0; links = [] }
 
 -- the word is a leaf, present or blocked, that names the page, in a table of the TVM
 abbrev pub LeafNames : (pages : ℕ) → Tables → (words : List ℕ) (page : ℕ) → Type 0

@@ -1,13 +1,12 @@
 -- The history that a script plays by turns.
-use Rattle.std.specs.Prelude.{◌≡◌, ℕ, zero, suc, ◌+◌, ◌*◌, ◌<◌, ◌≤◌, ◌⊎◌, ◌==◌, Bool, true, false, nat_lt, if◌then◌else◌, List, [], ◌∷◌, ◌++◌, length, fold, None}
+use Rattle.std.specs.Prelude.{◌≡◌, ℕ, zero, suc, ◌+◌, ◌*◌, ◌<◌, ◌≤◌, ◌⊎◌, ◌==◌, Bool, true, false, nat_lt, if◌then◌else◌, List, [], ◌∷◌, ◌++◌, length, fold, Option, Some, None}
 use Rattle.cove_base.specs.HartLines.{next_line}
-use Rattle.cove_model.specs.Types.{ScriptValue, Entry, Event, How, Hit, Walk, Line}
-use Rattle.cove_model.specs.Owners.{has, is_host, page_at}
-use Rattle.cove_model.specs.States.{State, harts_below, ended_by, page_of, word_at}
-use Rattle.cove_model.specs.Effects.{reply_to}
-use Rattle.cove_model.specs.Offers.{Offer, Nothing, Behind, Next, offer}
+use Rattle.cove_base.specs.declared.walks.Target.{Target}
+use Rattle.cove_model.specs.States.{harts_below, State, ended_by}
+use Rattle.cove_model.specs.Types.{ScriptValue, Entry, Event, How, Hit, Walk}
 use Rattle.cove_model.specs.Histories.{after}
-use Rattle.cove_model.specs.Tlbs.{tlb}
+use Rattle.cove_model.specs.Offers.{Offer, Nothing, Behind, Single, Touch, is_found, offer, sought}
+use Rattle.cove_model.specs.Translations.{holds_target, tlb}
 
 -- what a hart knows of a walk that it made and did not use yet
 pub data Note : Type 0 where
@@ -28,7 +27,7 @@ unplayed = record { history = []; notes = λ hart. Unwalked }
 abbrev pub noted : (hart : ℕ) → Note → (ℕ → Note) → ℕ → Note
 noted hart note notes other = if other == hart then note else notes other
 
--- the hart makes a walk, and keeps whether the page is the host's
+-- the hart makes a walk, and keeps whether it found its target
 abbrev pub walked : Play → (hart : ℕ) → Bool → Play
 walked play hart found = record play { notes = noted hart (if found then Found else Missing) play.notes }
 
@@ -41,50 +40,45 @@ abbrev pub entered : Play → (hart : ℕ) → Event → Play
 entered play hart event =
     record { history = play.history ++ entry_by hart event ∷ []; notes = noted hart Unwalked play.notes }
 
--- what a hart makes of an access: a walk, which finds the page or not, a success or a fault
-pub data Choice : Type 0 where
-  Walks : (found : Bool) → Choice
-  Succeeds : (how : How) → Choice
-  Faults : Choice
+-- how an access ends, where the hart holds its target or not, has this note, and a walk finds the target or not
+abbrev pub ending : (holds : Bool) → Note → (found : Bool) → Option How
+ending true note found = Some Hit
+ending false Unwalked found = if found then Some Walk else None
+ending false Found found = Some Walk
+ending false Missing found = if found then Some Walk else None
 
--- the choice, where the hart holds the page or not, has this note, and the page is the host's or not
-abbrev pub choice : (holds : Bool) → Note → (is_host : Bool) → Choice
-choice true note host = Succeeds Hit
-choice false Unwalked host = Walks host
-choice false Found host = Succeeds Walk
-choice false Missing true = Succeeds Walk
-choice false Missing false = Faults
+-- the event of an access that ends so
+abbrev pub ended_event : (success : How → Event) (fault : Event) → Option How → Event
+ended_event success fault (Some how) = success how
+ended_event success fault None = fault
 
--- the choice of a hart at an address
-abbrev pub choice_at : ScriptValue → Play → State → (hart addr : ℕ) → Choice
-choice_at script play S h addr =
-    choice (has (page_of addr) (tlb script play.history h).pages) (play.notes h) (is_host (page_at S.pages (page_of addr)))
+-- the entry of a hart at an offer
+abbrev pub entry_turn : ScriptValue → Play → State → (hart : ℕ) → Offer → Play
+entry_turn script play S h Nothing = play
+entry_turn script play S h (Behind other) = play
+entry_turn script play S h (Single event) = entered play h event
+entry_turn script play S h (Touch target success fault) =
+    entered play h (ended_event success fault (ending (holds_target (tlb script play.history h) target) (play.notes h) (is_found S h target)))
 
--- a turn at an access, whose success and fault are these events
-abbrev pub access_turn : Play → (hart : ℕ) → (success : How → Event) (fault : Event) → Choice → Play
-access_turn play h success fault (Walks found) = walked play h found
-access_turn play h success fault (Succeeds how) = entered play h (success how)
-access_turn play h success fault Faults = entered play h fault
+-- a walk comes first where the hart seeks a target that it does not hold, and has no note
+abbrev pub walks_first : (holds : Bool) → Note → Bool
+walks_first true note = false
+walks_first false Unwalked = true
+walks_first false Found = false
+walks_first false Missing = false
 
--- a turn at a line
-abbrev pub line_turn : ScriptValue → Play → State → (hart : ℕ) → Line → Play
-line_turn script play S h (Line.Call call) = entered play h (Event.Call call (reply_to S h call))
-line_turn script play S h (Line.Load addr) =
-    access_turn play h (λ how. Event.Load addr how (word_at S addr)) (Event.LoadFault addr) (choice_at script play S h addr)
-line_turn script play S h (Line.Store addr value) =
-    access_turn play h (λ how. Event.Store addr value how) (Event.StoreFault addr value) (choice_at script play S h addr)
-
--- a turn at an offer
-abbrev pub offer_turn : ScriptValue → Play → State → (hart : ℕ) → Offer → Play
-offer_turn script play S h Nothing = play
-offer_turn script play S h (Behind other) = play
-offer_turn script play S h (Next line) = line_turn script play S h line
+abbrev pub sought_turn : ScriptValue → Play → State → (hart : ℕ) → Offer → Option Target → Play
+sought_turn script play S h offered None = entry_turn script play S h offered
+sought_turn script play S h offered (Some target) =
+    if walks_first (holds_target (tlb script play.history h) target) (play.notes h)
+    then walked play h (is_found S h target)
+    else entry_turn script play S h offered
 
 -- a turn of a hart; there are never more than `limit` entries
 abbrev pub turn : (limit : ℕ) → ScriptValue → Play → (hart : ℕ) → Play
 turn limit script play h =
     if nat_lt (length play.history) limit
-    then offer_turn script play (after script play.history) h (offer script (after script play.history) h)
+    then (let S = after script play.history in sought_turn script play S h (offer script S h) (sought script S h))
     else play
 
 -- a turn of each hart

@@ -5,7 +5,7 @@ use Rattle.cove_base.specs.Places.{page_word, all_words}
 use Rattle.cove_base.specs.declared.limits.TheConstants.{ENTRY_LIMIT}
 use Rattle.cove_model.specs.LawfulStores.{Tables, IsLawful}
 use Rattle.cove_model.specs.WordLaws.{AnswersWithin}
-use Rattle.cove_model.specs.WordsStand.{epoch_in, answered_in}
+use Rattle.cove_model.specs.WordsStand.{FencesWithin, answered_in}
 
 -- a hart that has answered a number may use the page with this word: it is the host's, or in conversion since no earlier epoch
 abbrev pub IsUsableWord : (answered word : ℕ) → Type 0
@@ -41,10 +41,10 @@ StoresKeepAnswers =
     → IsLawful pages harts tables hart old words place word
     → AnswersWithin pages harts (slice_set words place word)
 
--- after a lawful store the epoch is within the number of entries that a history may have
-abbrev pub StoresKeepEpoch : Type 0
-StoresKeepEpoch =
+-- after a lawful store the epoch and the numbers of TVMs are within the number of entries that a history may have
+abbrev pub StoresKeepFences : Type 0
+StoresKeepFences =
     (pages harts : ℕ) (tables : ℕ → Tables) (hart : ℕ) (old words : List ℕ) (place word : ℕ)
-    → length words ≡ all_words pages harts → epoch_in pages words ≤ ENTRY_LIMIT
+    → length words ≡ all_words pages harts → FencesWithin pages harts words ENTRY_LIMIT
     → IsLawful pages harts tables hart old words place word
-    → epoch_in pages (slice_set words place word) ≤ ENTRY_LIMIT
+    → FencesWithin pages harts (slice_set words place word) ENTRY_LIMIT

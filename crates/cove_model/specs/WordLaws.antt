@@ -1,14 +1,15 @@
 -- What the accepted calls on owners store, and that the words then stand for the state of the definition.
-use Rattle.std.specs.Prelude.{◌≡◌, ◌↔◌, ℕ, zero, suc, ◌+◌, ◌/◌, ◌^◌, ◌<◌, ◌≤◌, true, List, [], ◌∷◌, length, replicate, slice_index, slice_set}
+use Rattle.std.specs.Prelude.{◌≡◌, ◌↔◌, ℕ, zero, suc, ◌+◌, ◌/◌, ◌^◌, ◌<◌, ◌≤◌, true, false, List, [], ◌∷◌, length, replicate, slice_index, slice_set}
 use Rattle.cove_base.specs.PageWords.{host, converting, IsHostWord, IsFreeWord, IsPageWord}
 use Rattle.cove_base.specs.Places.{Place, PageWord, TableWord, EpochWord, AnsweredWord, TvmWord, HartWord, CountWord, IsPlace, place_of, page_word, epoch_word, answered_word, all_words}
 use Rattle.cove_base.specs.Scripts.{ScriptValue}
 use Rattle.cove_base.specs.Stores.{AllAllowed, fills, stored}
 use Rattle.cove_base.specs.declared.calls.HostCall.TheVariants.{Convert, GlobalFence, LocalFence, Reclaim}
 use Rattle.cove_base.specs.declared.limits.TheConstants.{ENTRY_LIMIT}
-use Rattle.cove_model.specs.Owners.{every, is_host, is_free, page_at, zeros}
-use Rattle.cove_model.specs.States.{State, opening}
-use Rattle.cove_model.specs.Effects.{effect}
+use Rattle.cove_model.specs.Owners.{every, has, is_host, is_free, page_at, zeros}
+use Rattle.cove_model.specs.States.{State, opening, shared_pages}
+use Rattle.cove_model.specs.Answers.{effect}
+use Rattle.cove_model.specs.Sound.{IsSound}
 use Rattle.cove_model.specs.WordsStand.{OwnersStand, WordsStand, FramesStand, epoch_in, answered_in, maps_of}
 use Rattle.cove_model.specs.LawfulStores.{Tables, IsLawful, IsFreeIn}
 
@@ -71,7 +72,7 @@ abbrev pub ReclaimStands : Type 0
 ReclaimStands =
     (pages harts : ℕ) (words : List ℕ) (S : State) (hart base n : ℕ)
     → base / 4096 + n ≤ pages → every is_free (base / 4096) n S.pages ≡ true
-    → Stand pages harts words S
+    → IsSound S → Stand pages harts words S
     → Stand pages harts (stored words (reclaim_stores base n)) (effect S hart (Reclaim base n))
 
 -- a word that says nothing of the owners of pages
@@ -91,14 +92,6 @@ OthersLeaveOwners =
     → IsPlace pages harts place → IsBeside place
     → OwnersStand pages harts words S
     → OwnersStand pages harts (slice_set words (place_of pages harts place) word) S
-
--- a store of a TVM's number leaves all words standing
-abbrev pub NumbersLeaveWords : Type 0
-NumbersLeaveWords =
-    (pages harts : ℕ) (words : List ℕ) (S : State) (tvm word : ℕ)
-    → IsPlace pages harts (TvmWord tvm)
-    → Stand pages harts words S
-    → Stand pages harts (slice_set words (place_of pages harts (TvmWord tvm)) word) S
 
 -- a store of the count leaves all words standing
 abbrev pub CountLeavesWords : Type 0
@@ -212,6 +205,13 @@ WordsTellLowest =
     (pages harts : ℕ) (words : List ℕ) (S : State) (hart : ℕ) → OwnersStand pages harts words S
     → IsLowestBehind pages harts words hart
     → (0 < length S.unanswered) × (slice_index S.unanswered 0 ≡ hart)
+
+-- a page of the host's is mapped shared exactly where its word counts mappings
+abbrev pub WordsTellShared : Type 0
+WordsTellShared =
+    (pages harts : ℕ) (words : List ℕ) (S : State) (p : ℕ) → p < pages → OwnersStand pages harts words S
+    → is_host (page_at S.pages p) ≡ true
+    → (has p (shared_pages S) ≡ false) ↔ (slice_index words (page_word p) ≡ host 0)
 
 -- words that stand have a page word for each page, where the epoch and the mappings of the page are within the limits
 abbrev pub WordsAreWords : Type 0

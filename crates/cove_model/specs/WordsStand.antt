@@ -1,12 +1,13 @@
 -- Which shared words and frames stand for a state of the monitor.
-use Rattle.std.specs.Prelude.{◌≡◌, ℕ, ◌+◌, ◌<◌, ◌≤◌, ◌⊎◌, ◌==◌, Bool, true, false, nat_lt, List, [], filter, count_by, length, slice_index, slice_index_or, Option, Some, None}
+use Rattle.std.specs.Prelude.{◌≡◌, ℕ, ◌+◌, ◌*◌, ◌^◌, ◌<◌, ◌≤◌, ◌⊎◌, ◌==◌, Bool, true, false, nat_lt, List, [], filter, count_by, length, slice_index, slice_index_or, Option, Some, None, option_and_then}
 use Rattle.cove_base.specs.PageWords.{host, converting, given, released}
 use Rattle.cove_base.specs.Places.{page_word, table_word, epoch_word, answered_word, tvm_word, hart_word, all_words}
 use Rattle.cove_base.specs.declared.limits.TheConstants.{TVM_LIMIT}
 use Rattle.cove_base.specs.declared.numbers.Role.{Role}
 use Rattle.cove_base.specs.declared.numbers.Role.TheVariants as role
 use Rattle.cove_model.specs.Owners.{Purpose, AsRoot, AsState, AsTable, AsVcpu, AsData, Owner, Host, Converting, Free, Given, has, page_at}
-use Rattle.cove_model.specs.States.{State, harts_below, shared_pages}
+use Rattle.cove_model.specs.States.{Seat, State, harts_below, shared_pages, tvm_at}
+use Rattle.cove_model.specs.Mappings.{mapping_of, own_words}
 
 -- the global epoch in the words of a board
 abbrev pub epoch_in : (pages : ℕ) (words : List ℕ) → ℕ
@@ -15,6 +16,15 @@ epoch_in pages words = slice_index words (epoch_word pages)
 -- the number that each hart has answered
 abbrev pub answered_in : (pages : ℕ) (words : List ℕ) (hart : ℕ) → ℕ
 answered_in pages words hart = slice_index words (answered_word pages hart)
+
+-- the number of a TVM: that of its last fence
+abbrev pub number_in : (pages harts : ℕ) (words : List ℕ) (tvm : ℕ) → ℕ
+number_in pages harts words tvm = slice_index words (tvm_word pages harts tvm)
+
+-- neither the epoch nor the number of a TVM is above this
+pub record FencesWithin (pages harts : ℕ) (words : List ℕ) (most : ℕ) : Type 0 where
+  pub epoch : epoch_in pages words ≤ most
+  pub numbers : (tvm : ℕ) → 1 ≤ tvm → tvm ≤ TVM_LIMIT → number_in pages harts words tvm ≤ most
 
 -- the role that a page word has for a purpose
 abbrev pub role_of : Purpose → Role
@@ -87,24 +97,51 @@ is_table (Given tvm AsTable) = true
 is_table (Given tvm AsVcpu) = false
 is_table (Given tvm (AsData guest)) = false
 
--- all words stand for a state; there is no TVM yet, so every hart is outside
+-- the word of a hart that is inside: its TVM, and the number that it entered with
+pub record SitsByWord (pages harts : ℕ) (words : List ℕ) (word : ℕ) (seat : Seat) : Type 0 where
+  pub low : 1 ≤ seat.tvm
+  pub high : seat.tvm ≤ TVM_LIMIT
+  pub number : ℕ
+  pub begun : number ≤ number_in pages harts words seat.tvm
+  pub is : word ≡ 2 ^ 32 * seat.tvm + number
+
+-- the word of a hart stands for where it is
+abbrev pub SeatStands : (pages harts : ℕ) (words : List ℕ) (word : ℕ) → Option Seat → Type 0
+SeatStands pages harts words word None = word ≡ 0
+SeatStands pages harts words word (Some seat) = SitsByWord pages harts words word seat
+
+-- all words stand for a state
 pub record WordsStand (pages harts : ℕ) (words : List ℕ) (S : State) : Type 0 where
   pub size : length words ≡ all_words pages harts
   pub owners : OwnersStand pages harts words S
   pub tables :
       (p i : ℕ) → p < pages → i < 512 → is_table (page_at S.pages p) ≡ false
       → slice_index words (table_word pages p i) ≡ 0
-  pub unused : slice_index words (tvm_word pages harts 0) ≡ 0
-  pub outside : (hart : ℕ) → hart < harts → slice_index words (hart_word pages harts hart) ≡ 0
+  pub unused : number_in pages harts words 0 ≡ 0
+  pub seats :
+      (hart : ℕ) → hart < harts
+      → SeatStands pages harts words (slice_index words (hart_word pages harts hart)) (S.seats hart)
+
+-- the words of a TVM's own at one of its guest pages
+abbrev pub words_at : State → (tvm guest : ℕ) → Option (List ℕ)
+words_at S tvm guest = option_and_then (λ mapping. own_words mapping.backing) (mapping_of (tvm_at S tvm) guest)
+
+-- the frame of a page of a TVM has the words of its guest page; of other pages of TVMs nothing is said
+abbrev pub GivenStands : State → (frame : List ℕ) (tvm : ℕ) → Purpose → Type 0
+GivenStands S frame tvm (AsData guest) = words_at S tvm guest ≡ Some frame
+GivenStands S frame tvm AsRoot = Unit {0}
+GivenStands S frame tvm AsState = Unit {0}
+GivenStands S frame tvm AsTable = Unit {0}
+GivenStands S frame tvm AsVcpu = Unit {0}
 
 -- the frame of a page of the host's, or on its way from the host, has the words that the host sees
-abbrev pub FrameStands : (frame : List ℕ) → Owner → Type 0
-FrameStands frame (Host words) = frame ≡ words
-FrameStands frame (Converting held waiting words) = frame ≡ words
-FrameStands frame Free = Unit {0}
-FrameStands frame (Given tvm purpose) = Unit {0}
+abbrev pub FrameStands : State → (frame : List ℕ) → Owner → Type 0
+FrameStands S frame (Host words) = frame ≡ words
+FrameStands S frame (Converting held waiting words) = frame ≡ words
+FrameStands S frame Free = Unit {0}
+FrameStands S frame (Given tvm purpose) = GivenStands S frame tvm purpose
 
--- the frames stand for the memory of the host
+-- the frames stand for the memory of the host and of the TVMs
 pub record FramesStand (frames : List (List ℕ)) (S : State) : Type 0 where
   pub count : length frames ≡ length S.pages
-  pub frame : (p : ℕ) → p < length frames → FrameStands (slice_index_or frames p []) (page_at S.pages p)
+  pub frame : (p : ℕ) → p < length frames → FrameStands S (slice_index_or frames p []) (page_at S.pages p)

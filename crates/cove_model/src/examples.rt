@@ -8,15 +8,14 @@ ghost use Rattle.cove_base.specs.declared.events.How.TheVariants.{Hit, Walk};
 ghost use Rattle.cove_base.specs.declared.statuses.Status.TheVariants.{InvalidAddress, InvalidParam, NotSupported, Success};
 ghost use Rattle.cove_model.specs.Cached.{IsCached, IsQuiet};
 ghost use Rattle.cove_model.specs.Commands.{accepts};
-ghost use Rattle.cove_model.specs.Effects.{refusal, state_after};
+ghost use Rattle.cove_model.specs.Answers.{refusal, state_after};
 ghost use Rattle.cove_model.specs.Examples.{and_back, board, during_a_fence, during_a_fence_history, early_walk, early_walk_history, ended_hits, ended_hits_history, faulted, fence, first_hart_first, fresh, held_before, held_before_history, last_answer, last_answer_history, late, late_history, load, loaded, local_fence, long_fill, once_free, refused, said, second_hart_first, short_fill, stale, stale_history, text, there_and_back, there_and_back_history, three_converted, three_free, to_the_monitor, two_harts, two_phases, walks};
-ghost use Rattle.cove_model.specs.Follows.{Begins, Follows};
-ghost use Rattle.cove_model.specs.Histories.{Legal};
+ghost use Rattle.cove_model.specs.Histories.{Begins, Follows, Legal};
 ghost use Rattle.cove_model.specs.Owners.{Host, is_free, is_host, page_at, zeros};
 ghost use Rattle.cove_model.specs.Played.{IsOver, played};
 ghost use Rattle.cove_model.specs.Reports.{report, report_limit};
 ghost use Rattle.cove_model.specs.States.{opening, word_at};
-ghost use Rattle.cove_model.specs.Tlbs.{tlb};
+ghost use Rattle.cove_model.specs.Translations.{tlb};
 
 /// The word `sched` alone is accepted.
 pub fn worked_words()

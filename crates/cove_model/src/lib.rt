@@ -1,7 +1,8 @@
 #![tactic(auto)]
-//! The one-thread monitor as definitions: owners, states, refusals, effects, legal histories, the history that
-//! a script plays, and the grammar of scripts. They stand in specs/; this crate has their laws, each on a
-//! function with an empty body.
+//! The one-thread monitor as definitions: owners, TVMs, states, a rule for each call of hosts and guests, vCPUs,
+//! translations, legal histories, the history that a script plays, and the grammar of scripts. They stand in specs/;
+//! this crate has their laws, each on a function with an empty body. A call that is not built yet is refused in every
+//! state; the laws' proofs are over the rules of all of them.
 
 mod examples;
 mod laws;
@@ -16,10 +17,11 @@ pub use examples::{
     worked_runs, worked_steps, worked_translations, worked_words,
 };
 pub use laws::{
-    harts_keep_fitting, legal_histories_are_quiet, legal_histories_begin, offers_are_allowed,
-    one_entry_later, others_untouched, played_histories_are_legal, states_are_sound,
-    steps_are_determined, still_rounds_are_last, translations_are_usable,
-    unbuilt_calls_are_refused,
+    entries_of_others_leave_a_running_vcpu, harts_keep_fitting, harts_sit_on_vcpus_that_run,
+    legal_histories_are_quiet, legal_histories_begin, offers_are_allowed, one_entry_later,
+    others_untouched, played_histories_are_legal, private_pages_are_not_host_memory,
+    records_are_sealed, rules_answer, states_are_orderly, states_are_sound, steps_are_determined,
+    still_rounds_are_last, translations_are_usable, unbuilt_calls_are_refused,
 };
 pub use promises::{first_failing_checks_answer, host_reads_show_host_memory};
 pub use rules::{boundary_law, store_law};

@@ -9,8 +9,8 @@ ghost use Rattle.cove_base.specs.declared.events.Event.TheVariants.{Call, Load};
 ghost use Rattle.cove_base.specs.declared.events.How.{How};
 ghost use Rattle.cove_base.specs.declared.statuses.Reply.{Reply};
 ghost use Rattle.cove_base.specs.declared.statuses.Status.TheVariants.{Success};
-ghost use Rattle.cove_model.specs.Effects.{outcome, reply_to, rule_of, state_after};
-ghost use Rattle.cove_model.specs.FirstChecks.{AllPassed, FailsFirst, refusal_by};
+ghost use Rattle.cove_model.specs.Answers.{outcome, reply_to, rule_of, state_after};
+ghost use Rattle.cove_model.specs.FirstChecks.{AllPassed, FailsFirst, reply_of};
 ghost use Rattle.cove_model.specs.Histories.{Legal, after};
 ghost use Rattle.cove_model.specs.HostMemory.{host_memory, host_word};
 ghost use Rattle.cove_model.specs.Owners.{TheHost, holder, page_at, zeros};
@@ -23,9 +23,9 @@ ghost use Rattle.cove_model.specs.Steps.{after_event};
 pub fn first_failing_checks_answer()
     // A call that is refused changes nothing.
     ensures refused { (S : State) (hart : ℕ) (call : HostCall) (i : ℕ) (check : Check)
-        → FailsFirst ((rule_of call).checks S hart) i check
-        → (reply_to S hart call ≡ refusal_by check) × (state_after S hart call ≡ S) }
-    ensures accepted { (S : State) (hart : ℕ) (call : HostCall) → AllPassed ((rule_of call).checks S hart)
+        → FailsFirst ((rule_of S hart call).checks) i check
+        → (reply_to S hart call ≡ reply_of check) × (state_after S hart call ≡ S) }
+    ensures accepted { (S : State) (hart : ℕ) (call : HostCall) → AllPassed ((rule_of S hart call).checks)
         → (reply_to S hart call ≡ record { status = Success; value = (outcome S hart call).value })
         × (state_after S hart call ≡ (outcome S hart call).state) }
 
@@ -37,7 +37,7 @@ pub fn first_failing_checks_answer()
     ensures one { (checks : List Check) (i j : ℕ) (check other : Check)
         → FailsFirst checks i check → FailsFirst checks j other → (i ≡ j) × (check ≡ other) }
     ensures success { (S : State) (hart : ℕ) (call : HostCall)
-        → ((reply_to S hart call).status ≡ Success) ↔ AllPassed ((rule_of call).checks S hart) }
+        → ((reply_to S hart call).status ≡ Success) ↔ AllPassed ((rule_of S hart call).checks) }
 
     // So is each call of a legal history, in the state after the entries before it.
     ensures entries { (script : ScriptValue) (before rest : List Entry) (entry : Entry) (call : HostCall) (reply : Reply)

@@ -1,8 +1,8 @@
-ghost use Rattle.cove_model.specs.StoreLaw.{StoresKeepUsable, StoresKeepHost, StoresKeepAnswers, StoresKeepEpoch};
-ghost use Rattle.cove_model.specs.WordLaws.{OpeningStands, ConvertStands, GlobalFenceStands, LocalFenceStands, ReclaimStands, OthersLeaveOwners, NumbersLeaveWords, CountLeavesWords};
+ghost use Rattle.cove_model.specs.StoreLaw.{StoresKeepUsable, StoresKeepHost, StoresKeepAnswers, StoresKeepFences};
+ghost use Rattle.cove_model.specs.WordLaws.{OpeningStands, ConvertStands, GlobalFenceStands, LocalFenceStands, ReclaimStands, OthersLeaveOwners, CountLeavesWords};
 ghost use Rattle.cove_model.specs.WordLaws.{ConvertKeepsFrames, GlobalFenceKeepsFrames, LocalFenceKeepsFrames, ReclaimZeroesFrames};
 ghost use Rattle.cove_model.specs.WordLaws.{ConvertIsLawful, GlobalFenceIsLawful, LocalFenceIsLawful, ReclaimIsLawful};
-ghost use Rattle.cove_model.specs.WordLaws.{WordsTellHost, WordsTellFree, WordsTellAnswered, WordsTellLowest, WordsAreWords};
+ghost use Rattle.cove_model.specs.WordLaws.{WordsTellHost, WordsTellShared, WordsTellFree, WordsTellAnswered, WordsTellLowest, WordsAreWords};
 
 /// The law of shared words that stand for a state: what each accepted call on owners stores leaves words that
 /// stand for the definition's state, on any board. It runs no code.
@@ -15,13 +15,13 @@ pub fn words_law()
 
     // Stores of other words leave what stands.
     ensures others { OthersLeaveOwners }
-    ensures numbers { NumbersLeaveWords }
     ensures count { CountLeavesWords }
 {}
 
 /// The law of what words that stand tell of the state. It runs no code.
 pub fn telling_law()
     ensures host { WordsTellHost }
+    ensures shared { WordsTellShared }
     ensures free { WordsTellFree }
     ensures answered { WordsTellAnswered }
     ensures lowest { WordsTellLowest }
@@ -48,5 +48,5 @@ pub fn lawful_law()
     ensures usable { StoresKeepUsable }
     ensures stays { StoresKeepHost }
     ensures answers { StoresKeepAnswers }
-    ensures epoch { StoresKeepEpoch }
+    ensures fences { StoresKeepFences }
 {}

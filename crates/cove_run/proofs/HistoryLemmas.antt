@@ -1,5 +1,6 @@
 -- What a script plays is a history of it, of which every entry has a line.
 use Rattle.std.proofs.Common.{◌≡◌, ℕ, ◌≤◌, List, [], ◌∷◌, ◌++◌, length, IsTrue, true, ⊎_elim, refl, zero, suc, arith}
+use Rattle.std.proofs.lemmas.Option.{none-some}
 use Rattle.cove_base.proofs.ScriptLimits.{limits_of}
 use Rattle.cove_base.specs.Scripts.{ScriptValue, is_within_limits}
 use Rattle.cove_base.specs.declared.events.Entry.{Entry}
@@ -7,22 +8,21 @@ use Rattle.cove_base.specs.declared.events.Event.{Event}
 use Rattle.cove_base.specs.declared.events.Event.TheVariants as events
 use Rattle.cove_base.specs.declared.limits.TheConstants.{ENTRY_LIMIT}
 use Rattle.cove_journal.specs.Lines.{is_writable}
-use Rattle.cove_model.specs.Follows.{Follows}
-use Rattle.cove_model.specs.Histories.{EachEntry, Legal, after}
+use Rattle.cove_model.specs.Histories.{Follows, EachEntry, Legal, after}
 use Rattle.cove_model.specs.Played.{IsOver}
-use Rattle.cove_model.specs.States.{State}
 use Rattle.cove_model.specs.Steps.{Allows}
-use Rattle.cove_model.proofs.Beginning.{legal_begins, over_follows}
+use Rattle.cove_model.proofs.Beginning.{legal_begins, outside_due, over_follows}
+use Rattle.cove_model.proofs.Histories.{legal_quiet}
 use Rattle.cove_model.proofs.Playing.{played_fits}
 use Rattle.cove_model.proofs.Progress.{played_ends, played_size}
-use Rattle.cove_model.proofs.Quiet.{legal_quiet}
+use Rattle.cove_model.proofs.Unbuilt.{outside_after}
 use Rattle.cove_run.specs.Printing.{AreWritable}
 use Rattle.cove_run.specs.TopCall.{IsHistoryOf, history_of}
 
 pub is_history : (script : ScriptValue) → IsTrue (is_within_limits script) → IsHistoryOf script (history_of script)
 is_history script within =
     let limits = limits_of script within in
-    let fits = played_fits ENTRY_LIMIT script limits in
+    let fits = played_fits script limits ENTRY_LIMIT in
     record {
       legal = fits.0;
       begins = legal_begins script (history_of script) fits.0;
@@ -40,22 +40,24 @@ full_else script open_lines =
     omega arith
 
 -- an event that may be made has a line: guests make none yet
-event_writable : (script : ScriptValue) (S : State) (h : ℕ) (event : Event) → Allows script S h event → is_writable event ≡ true
-event_writable script S h (events.Call call reply) may = refl
-event_writable script S h (events.Load addr how value) may = refl
-event_writable script S h (events.LoadFault addr) may = refl
-event_writable script S h (events.Store addr value how) may = refl
-event_writable script S h (events.StoreFault addr value) may = refl
-event_writable script S h (events.Fetch how) may = refl
-event_writable script S h events.Exec may = refl
-event_writable script S h (events.Access how) may = refl
-event_writable script S h (events.Guest act reply) may = refl
-event_writable script S h (events.Evidence quote) may = refl
-event_writable script S h (events.Exit exit) may = absurd may.1
+event_writable : (script : ScriptValue) (before : List Entry) (h : ℕ) (event : Event) → Allows script (after script before) h event → is_writable event ≡ true
+event_writable script before h (events.Call call reply) may = refl
+event_writable script before h (events.Load addr how value) may = refl
+event_writable script before h (events.LoadFault addr) may = refl
+event_writable script before h (events.Store addr value how) may = refl
+event_writable script before h (events.StoreFault addr value) may = refl
+event_writable script before h (events.Fetch how) may = refl
+event_writable script before h events.Exec may = refl
+event_writable script before h (events.Access how) may = refl
+event_writable script before h (events.Guest act reply) may = refl
+event_writable script before h (events.Evidence quote) may = refl
+event_writable script before h (events.Exit exit) may =
+    let due = outside_due script (after script before) h (events.Exit exit) (outside_after script before h) may in
+    absurd (none-some due.next.line due.is)
 
 each_writable : (script : ScriptValue) (before history : List Entry) → EachEntry (λ pre entry. Allows script (after script pre) entry.hart.0 entry.event) before history → AreWritable history
 each_writable script before [] each i d below = absurd (omega arith)
-each_writable script before (entry ∷ history) each zero d below = event_writable script (after script before) entry.hart.0 entry.event each.0
+each_writable script before (entry ∷ history) each zero d below = event_writable script before entry.hart.0 entry.event each.0
 each_writable script before (entry ∷ history) each (suc i) d below = each_writable script (before ++ entry ∷ []) history each.1 i d (omega arith)
 
 pub legal_writable : (script : ScriptValue) (history : List Entry) → Legal script history → AreWritable history

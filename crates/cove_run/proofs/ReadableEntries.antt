@@ -1,5 +1,5 @@
 -- Every entry of a legal history has a line, which names it where the entry's numbers have 64 bits.
-use Rattle.std.proofs.Common.{◌≡◌, ℕ, suc, ◌<◌, true, List, [], ◌∷◌, ◌++◌, length, get_or, IsTrue, refl, arith}
+use Rattle.std.proofs.Common.{◌≡◌, ℕ, suc, ◌<◌, true, List, [], ◌∷◌, ◌++◌, length, get_or, Some, IsTrue, refl, arith}
 use Rattle.std.specs.List.{list_all}
 use Rattle.std.proofs.lemmas.Bool.{and_from, lt-ltb}
 use Rattle.cove_base.proofs.ScriptLimits.{limits_of}
@@ -11,16 +11,24 @@ use Rattle.cove_base.specs.declared.limits.TheConstants.{HART_LIMIT}
 use Rattle.cove_journal.specs.Forms.{is_event_shown, is_sized}
 use Rattle.cove_journal.specs.Journals.{is_readable}
 use Rattle.cove_model.specs.Histories.{EachEntry, Legal, after}
-use Rattle.cove_model.specs.States.{State}
-use Rattle.cove_model.specs.Steps.{Allows}
-use Rattle.cove_model.proofs.Usable.{entry_on_board}
+use Rattle.cove_model.specs.States.{ended_by}
+use Rattle.cove_model.specs.Steps.{Allows, asked}
+use Rattle.cove_base.specs.declared.scripts.Line.{Line}
+use Rattle.cove_model.proofs.Beginning.{Due, outside_due}
+use Rattle.cove_model.proofs.LineHarts.{line_on_board}
+use Rattle.cove_model.proofs.Unbuilt.{outside_after}
+use Rattle.std.proofs.lemmas.Option.{none-some}
 
--- an event that may be made is shown: guests make none yet
-event_is_shown : (script : ScriptValue) (S : State) (h : ℕ) (event : Event) → Allows script S h event → is_event_shown event ≡ true
-event_is_shown script S h (events.Guest act reply) may = absurd may.1
-event_is_shown script S h (events.Evidence quote) may = absurd may.1
-event_is_shown script S h (events.Exit exit) may = absurd may.1
-event_is_shown script S h _ may = refl
+-- an event that may be made answers a line, since every hart is outside
+made_due : (script : ScriptValue) (before : List Entry) (h : ℕ) (event : Event) → Allows script (after script before) h event → Due script (after script before) h event
+made_due script before h event may = outside_due script (after script before) h event (outside_after script before h) may
+
+-- so it is shown
+event_is_shown : (event : Event) (line : Line) → asked event ≡ Some line → is_event_shown event ≡ true
+event_is_shown (events.Guest act reply) line is = absurd (none-some line is)
+event_is_shown (events.Evidence quote) line is = absurd (none-some line is)
+event_is_shown (events.Exit exit) line is = absurd (none-some line is)
+event_is_shown _ line is = refl
 
 -- the numbers of each entry have 64 bits
 abbrev pub AreSized : List Entry → Type 0
@@ -31,10 +39,11 @@ each_is_readable : (script : ScriptValue) → IsTrue (is_within_limits script) �
 each_is_readable script within before [] each sized = refl
 each_is_readable script within before (entry ∷ history) each sized =
     let limits = limits_of script within in
-    let on_board = entry_on_board script before entry limits each.0 in
+    let due = made_due script before entry.hart.0 entry.event each.0 in
+    let on_board = line_on_board script entry.hart.0 (ended_by (after script before) entry.hart.0) due.next limits due.found in
     let few = limits.few_harts in
     and_from _ _
-    (and_from _ _ (and_from _ _ (lt-ltb entry.hart.0 HART_LIMIT (omega arith)) (event_is_shown script (after script before) entry.hart.0 entry.event each.0)) (sized 0 entry (omega arith)))
+    (and_from _ _ (and_from _ _ (lt-ltb entry.hart.0 HART_LIMIT (omega arith)) (event_is_shown entry.event due.next.line due.is)) (sized 0 entry (omega arith)))
     (each_is_readable script within (before ++ entry ∷ []) history each.1 (λ i d below. sized (suc i) d (omega arith)))
 
 pub legal_is_readable : (script : ScriptValue) → IsTrue (is_within_limits script) → (history : List Entry) → Legal script history → AreSized history → list_all is_readable history ≡ true

@@ -9,9 +9,8 @@ use Rattle.cove_base.specs.declared.limits.TheConstants.{ENTRY_LIMIT, SCRIPT_LIM
 use Rattle.cove_io.specs.Ends.{TakesExactly}
 use Rattle.cove_journal.specs.Journals.{journal_history}
 use Rattle.cove_model.specs.Cached.{IsCached, IsQuiet}
-use Rattle.cove_model.specs.Follows.{Begins}
+use Rattle.cove_model.specs.Histories.{Begins, Legal}
 use Rattle.cove_model.specs.Grammar.{script_of, fault_at}
-use Rattle.cove_model.specs.Histories.{Legal}
 use Rattle.cove_model.specs.Played.{IsOver, played}
 use Rattle.cove_model.specs.Reports.{report, report_limit}
 use Rattle.cove_run.specs.Printing.{refusal_line}

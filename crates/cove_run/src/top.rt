@@ -5,7 +5,7 @@ ghost use Rattle.std.specs.Io.KnownBytes.{Appends};
 ghost use Rattle.cove_base.specs.Scripts.{ScriptValue};
 ghost use Rattle.cove_io.specs.Ends.{AppendsFront, Rose, TakesAtMost};
 ghost use Rattle.cove_model.specs.Commands.{accepts};
-ghost use Rattle.cove_model.specs.Follows.{Follows};
+ghost use Rattle.cove_model.specs.Histories.{Follows};
 ghost use Rattle.cove_model.specs.Grammar.{script_of};
 ghost use Rattle.cove_model.specs.Played.{IsOver};
 ghost use Rattle.cove_model.specs.Reports.{report, report_limit};

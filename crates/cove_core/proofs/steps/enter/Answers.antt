@@ -1,8 +1,8 @@
-use Rattle.std.proofs.Common.{◌≡◌, ◌+◌, length, set, get_or, sym, subst, ap, ◌∙◌, arith}
+use Rattle.std.proofs.Common.{◌≡◌, ◌+◌, length, set, get_or, refl, sym, subst, ap, ◌∙◌, arith}
 use Rattle.cove_base.proofs.ScriptLimits.{limits_of}
 use Rattle.cove_base.specs.HartPlaces.{IsNextPlace}
 use Rattle.cove_base.specs.Places.{count_word}
-use Rattle.cove_core.proofs.Entering.{countable, ended_few, fits_after, kept_by}
+use Rattle.cove_core.proofs.Entering.{countable, ended_few, fits_after, has_line, kept_by}
 use Rattle.cove_hart.specs.HartStates.{hart_value}
 use Rattle.cove_hart.specs.declared.states.HartState.{HartState}
 use Rattle.cove_model.specs.Fits.{Fits}
@@ -31,6 +31,10 @@ commit-requires-clause-allowed g c =
     subst (λ i. g.W.Words.counts (g.W.Words.guard c.args.w.now) words i (record { hart = c.args.hart.now.hart; event = c.args.event })) (sym at)
     (c.requires.counted words (record { hart = c.args.hart.now.hart; event = c.args.event })
     (countable script words c.args.mon.now (hart_value c.args.hart.now) c.args.event c.requires.performed))
+
+pub end_line-requires-clause-left : goal.end_line-requires-clause-left
+end_line-requires-clause-left g c =
+    has_line c.args.script.now (g.W.Words.words c.args.w.now) c.args.mon.now (hart_value c.args.hart.now) c.args.event c.requires.performed
 
 pub end_line-requires-clause-few : goal.end_line-requires-clause-few
 end_line-requires-clause-few g c =
@@ -68,4 +72,5 @@ returns-clause-fits g c =
     (ap (λ n. n.0) hart) ended
     (subst (λ n. IsNextPlace script n.0 left.ended left.place) hart c.end_line.ensures.place)
     (ap (λ (h : HartState). h.walked) c.end_line.ensures.ended)
-    (ap (λ (h : HartState). h.hosts) c.end_line.ensures.ended))
+    refl
+    (ap (λ (h : HartState). h.rings) c.end_line.ensures.ended))

@@ -77,8 +77,8 @@ enter-requires-clause-performed g c =
     let l = c.in-Some.line in
     let step = c.perform-event in
     let none = none_behind script mon.history l c.first_behind.result c.in_default-first_behind.is c.first_behind.ensures.none in
-    let did = performing script c.line_at.ensures.within (g.W.Words.words c.args.w.now) mon c.requires.kept held c.requires.fits c.requires.prepared l (sym c.line_at.ensures.line ∙ c.in-Some.is) none
-    (g.W.Words.words step.new.w) step.new.g step.new.hart.hosts step.result step.ensures.board step.ensures.done in
+    let did = performing script c.line_at.ensures.within (g.W.Words.words c.args.w.now) mon c.requires.kept held c.requires.fits refl c.requires.prepared l (sym c.line_at.ensures.line ∙ c.in-Some.is) none
+    (g.W.Words.words step.new.w) step.new.g step.new.hart.rings step.result step.ensures.board step.ensures.done in
     subst (λ h. IsPerformed script (g.W.Words.words step.new.w) (record { ground = step.new.g; history = mon.history; progress = mon.progress }) (hart_value h) step.result) (sym step.ensures.hart) did.performed
 
 pub returns-clause-made : goal.returns-clause-made
@@ -93,15 +93,15 @@ returns-clause-made g c =
     let now = g.W.Words.words step.new.w in
     let event = step.result in
     let none = none_behind script mon.history l c.first_behind.result c.in_default-first_behind.is c.first_behind.ensures.none in
-    let did = performing script c.line_at.ensures.within words mon c.requires.kept held c.requires.fits c.requires.prepared l at none now step.new.g step.new.hart.hosts event step.ensures.board step.ensures.done in
+    let did = performing script c.line_at.ensures.within words mon c.requires.kept held c.requires.fits refl c.requires.prepared l at none now step.new.g step.new.hart.rings event step.ensures.board step.ensures.done in
     let hart : step.new.hart.hart ≡ c.args.hart.now.hart = ap (λ (h : HartState). h.hart) step.ensures.hart in
     let entry : Entry = entry_from c.args.hart.now.hart event in
     let grown : c.enter.new.mon.history ≡ mon.history ++ entry ∷ [] =
     c.enter.ensures.grown ∙ ap (λ h. mon.history ++ entry_from h event ∷ []) hart in
     last_entry (λ e. IsMade script words (g.W.Words.words c.enter.new.w) mon c.enter.new.mon held (hart_value c.enter.new.hart) e) mon.history c.enter.new.mon.history entry c.len-place.result grown c.len-place.ensures.number
-    (made script c.line_at.ensures.within words mon c.requires.kept held c.requires.fits l at (next_at script mon.history held c.requires.fits l at) now step.new.g step.new.hart.hosts event did.performed did.parts
+    (made script c.line_at.ensures.within words mon c.requires.kept held c.requires.fits l at (next_at script mon.history held c.requires.fits l at) now step.new.g step.new.hart.rings event did.performed did.parts
     (g.W.Words.words c.enter.new.w) c.enter.new.mon (hart_value c.enter.new.hart)
-    c.enter.ensures.kept c.enter.ensures.fits grown (ap (λ n. n.0) (c.enter.ensures.hart ∙ hart)) c.enter.ensures.hosts c.enter.ensures.used c.enter.ensures.words)
+    c.enter.ensures.kept c.enter.ensures.fits grown (ap (λ n. n.0) (c.enter.ensures.hart ∙ hart)) c.enter.ensures.rings c.enter.ensures.used c.enter.ensures.words)
 
 pub returns-clause-entry : goal.returns-clause-entry
 returns-clause-entry g c =

@@ -4,7 +4,7 @@ use Rattle.cove_base.specs.declared.limits.TheConstants.{ENTRY_LIMIT}
 use Rattle.cove_base.specs.declared.statuses.Reply.{Reply}
 use Rattle.cove_core.proofs.BoardLemmas.{stands_ready}
 use Rattle.cove_core.specs.Called.{Called, IsReady}
-use Rattle.cove_model.specs.Effects.{state_after}
+use Rattle.cove_model.specs.Answers.{state_after}
 use Rattle.cove_model.specs.States.{State}
 use Rattle.cove_model.specs.WordLaws.{Stand}
 use Rattle.cove_model.specs.WordsStand.{FramesStand, epoch_in}

@@ -14,7 +14,7 @@ loop-second-init g c =
     let S = after script c.in_ok-built.built.mon.history in
     let none = ap length fresh.unplayed in
     let same = ap (λ n. epoch_in n words) board.0 in
-    let few = kept.epoch in
+    let few = kept.fences.epoch in
     record {
       pages = kept.board.pages ∙ board.0;
       harts = kept.board.harts ∙ board.1;

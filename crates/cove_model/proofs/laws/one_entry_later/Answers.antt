@@ -1,8 +1,11 @@
 use Rattle.cove_model.proofs.laws.one_entry_later.Goals as goal
 use Rattle.cove_base.specs.declared.events.Entry.{Entry}
-use Rattle.cove_model.proofs.AtTheEnd.{each_front, each_last, each_push, legal_front, legal_last, legal_push, tlb_push, told_same}
+use Rattle.cove_model.proofs.AtTheEnd.{after_push, each_front, each_last, each_push, legal_front, legal_last, legal_push, own_same, tlb_push, told_same}
 use Rattle.cove_model.specs.Cached.{IsQuietAt, IsReached}
 use Rattle.std.proofs.Common.{List, [], refl}
+
+pub returns-clause-state : goal.returns-clause-state
+returns-clause-state c = after_push
 
 pub returns-clause-legal : goal.returns-clause-legal
 returns-clause-legal c = λ script history entry.
@@ -16,6 +19,9 @@ returns-clause-cached c = λ script history entry.
 pub returns-clause-quiet : goal.returns-clause-quiet
 returns-clause-quiet c = λ script history entry.
     (λ all. (each_front (IsQuietAt script) [] history entry all, each_last (IsQuietAt script) [] history entry all), λ parts. each_push (IsQuietAt script) [] history entry parts.0 parts.1)
+
+pub returns-clause-own : goal.returns-clause-own
+returns-clause-own c = λ history entry. own_same history entry entry.hart.0 refl
 
 pub returns-clause-told : goal.returns-clause-told
 returns-clause-told c = λ history entry line ask. told_same history entry entry.hart.0 line refl ask

@@ -1,25 +1,24 @@
 use Rattle.cove_base.proofs.ScriptLimits.{limits_of}
 use Rattle.cove_model.proofs.laws.played_histories_are_legal.Goals as goal
 use Rattle.cove_model.proofs.Beginning.{legal_begins, over_follows}
-use Rattle.cove_model.proofs.Counting.{played_over}
+use Rattle.cove_model.proofs.Histories.{legal_quiet}
 use Rattle.cove_model.proofs.Playing.{played_fits}
 use Rattle.cove_model.proofs.Progress.{played_ends, played_size}
-use Rattle.cove_model.proofs.Quiet.{legal_quiet}
 use Rattle.cove_model.specs.Played.{played}
 
 pub returns-clause-legal : goal.returns-clause-legal
-returns-clause-legal c = λ limit script within. (played_fits limit script (limits_of script within)).0
+returns-clause-legal c = λ limit script within. (played_fits script (limits_of script within) limit).0
 
 pub returns-clause-cached : goal.returns-clause-cached
-returns-clause-cached c = λ limit script within. (played_fits limit script (limits_of script within)).1
+returns-clause-cached c = λ limit script within. (played_fits script (limits_of script within) limit).1
 
 pub returns-clause-quiet : goal.returns-clause-quiet
 returns-clause-quiet c = λ limit script within.
     let limits = limits_of script within in
-    legal_quiet script limits (played limit script) (played_fits limit script limits).0
+    legal_quiet script limits (played limit script) (played_fits script limits limit).0
 
 pub returns-clause-begins : goal.returns-clause-begins
-returns-clause-begins c = λ limit script within. legal_begins script (played limit script) (played_fits limit script (limits_of script within)).0
+returns-clause-begins c = λ limit script within. legal_begins script (played limit script) (played_fits script (limits_of script within) limit).0
 
 pub returns-clause-bounded : goal.returns-clause-bounded
 returns-clause-bounded c = played_size
@@ -28,7 +27,4 @@ pub returns-clause-ends : goal.returns-clause-ends
 returns-clause-ends c = played_ends
 
 pub returns-clause-follows : goal.returns-clause-follows
-returns-clause-follows c = λ limit script within over. over_follows script (played limit script) (played_fits limit script (limits_of script within)).0 over
-
-pub returns-clause-whole : goal.returns-clause-whole
-returns-clause-whole c = λ limit script within few. played_over limit script (limits_of script within) few
+returns-clause-follows c = λ limit script within over. over_follows script (played limit script) (played_fits script (limits_of script within) limit).0 over

@@ -2,8 +2,9 @@ use Rattle.cove_model.proofs.promises.first_failing_checks_answer.Goals as goal
 use Rattle.cove_base.specs.declared.events.Event.{Event}
 use Rattle.cove_model.proofs.AtTheEnd.{legal_at}
 use Rattle.cove_model.proofs.FirstCheckProofs.{accepted_by_all, first_not_passed, first_once, first_or_passed, refused_by_first, success_by_all}
+use Rattle.cove_model.proofs.Loads.{call_answered}
 use Rattle.cove_model.specs.Histories.{after}
-use Rattle.cove_model.specs.Steps.{Answers}
+use Rattle.cove_model.specs.Steps.{Allows}
 use Rattle.std.proofs.Common.{subst}
 
 pub returns-clause-refused : goal.returns-clause-refused
@@ -26,5 +27,5 @@ returns-clause-one c = first_once
 
 pub returns-clause-entries : goal.returns-clause-entries
 returns-clause-entries c = λ script before rest entry call reply legal is.
-    let P : Event → Type 0 = λ event. Answers (after script before) entry.hart.0 event in
-    subst P is (legal_at script before entry rest legal).1
+    let P : Event → Type 0 = λ event. Allows script (after script before) entry.hart.0 event in
+    call_answered script (after script before) entry.hart.0 call reply (subst P is (legal_at script before entry rest legal))

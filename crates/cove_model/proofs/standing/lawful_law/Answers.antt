@@ -1,5 +1,5 @@
 use Rattle.cove_model.proofs.LawfulProofs.{convert_is_lawful, global_fence_is_lawful, local_fence_is_lawful, reclaim_is_lawful}
-use Rattle.cove_model.proofs.StoreLawProofs.{stores_keep_usable, stores_keep_host, stores_keep_answers, stores_keep_epoch}
+use Rattle.cove_model.proofs.StoreLawProofs.{stores_keep_usable, stores_keep_host, stores_keep_answers, stores_keep_fences}
 use Rattle.cove_model.proofs.standing.lawful_law.Goals as goal
 
 pub returns-clause-convert : goal.returns-clause-convert
@@ -23,5 +23,5 @@ returns-clause-stays c = stores_keep_host
 pub returns-clause-answers : goal.returns-clause-answers
 returns-clause-answers c = stores_keep_answers
 
-pub returns-clause-epoch : goal.returns-clause-epoch
-returns-clause-epoch c = stores_keep_epoch
+pub returns-clause-fences : goal.returns-clause-fences
+returns-clause-fences c = stores_keep_fences

@@ -1,4 +1,4 @@
-use Rattle.cove_model.proofs.ToldProofs.{words_tell_host, words_tell_free, words_tell_answered, words_tell_lowest, words_are_words}
+use Rattle.cove_model.proofs.ToldProofs.{words_tell_host, words_tell_shared, words_tell_free, words_tell_answered, words_tell_lowest, words_are_words}
 use Rattle.cove_model.proofs.standing.telling_law.Goals as goal
 
 pub returns-clause-host : goal.returns-clause-host
@@ -15,3 +15,6 @@ returns-clause-lowest c = words_tell_lowest
 
 pub returns-clause-words : goal.returns-clause-words
 returns-clause-words c = words_are_words
+
+pub returns-clause-shared : goal.returns-clause-shared
+returns-clause-shared c = words_tell_shared

@@ -1,4 +1,4 @@
-use Rattle.cove_model.proofs.BesideProofs.{others_leave_owners, numbers_leave_words, count_leaves_words}
+use Rattle.cove_model.proofs.BesideProofs.{others_leave_owners, count_leaves_words}
 use Rattle.cove_model.proofs.OpeningStandsProofs.{opening_stands}
 use Rattle.cove_model.proofs.WordProofs.{convert_stands, global_fence_stands, local_fence_stands, reclaim_stands}
 use Rattle.cove_model.proofs.standing.words_law.Goals as goal
@@ -20,9 +20,6 @@ returns-clause-reclaim c = reclaim_stands
 
 pub returns-clause-others : goal.returns-clause-others
 returns-clause-others c = others_leave_owners
-
-pub returns-clause-numbers : goal.returns-clause-numbers
-returns-clause-numbers c = numbers_leave_words
 
 pub returns-clause-count : goal.returns-clause-count
 returns-clause-count c = count_leaves_words

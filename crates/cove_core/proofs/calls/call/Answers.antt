@@ -1,0 +1,13 @@
+use Rattle.std.proofs.Common.{rules, ◌≡◌, false, refl}
+use Rattle.cove_core.proofs.CallLemmas.{same_answer, unbuilt_refused}
+use Rattle.cove_model.specs.Answers.{is_built}
+use Rattle.cove_core.proofs.calls.call.Goals as goal
+
+pub returns-in-Create : goal.returns-in-Create
+returns-in-Create g c =
+    let unbuilt : is_built c.args.c ≡ false = (let is = c.in-Create.is in search rules) in
+    record {
+      called = same_answer _ _ _ _ _ _ _ _ _ _ _ refl c.refused.ensures (unbuilt_refused _ _ _ c.args.c _ _ unbuilt);
+      guard = refl;
+      board = (refl, refl);
+    }
