@@ -13,6 +13,7 @@ pub mod Fits
 pub mod Played
 pub mod Reports
 pub mod Examples
+pub mod GuestExamples
 pub mod Commands
 pub mod Grammar
 pub mod Fronts

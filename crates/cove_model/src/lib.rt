@@ -5,6 +5,7 @@
 //! state; the laws' proofs are over the rules of all of them.
 
 mod examples;
+mod guest_examples;
 mod laws;
 mod promises;
 mod rules;
@@ -16,6 +17,7 @@ pub use examples::{
     worked_fills, worked_lines, worked_plays, worked_quiet, worked_refusals, worked_reports,
     worked_runs, worked_steps, worked_translations, worked_words,
 };
+pub use guest_examples::{worked_guest_outcomes, worked_guest_refusals, worked_guests};
 pub use laws::{
     entries_of_others_leave_a_running_vcpu, harts_keep_fitting, harts_sit_on_vcpus_that_run,
     legal_histories_are_quiet, legal_histories_begin, offers_are_allowed, one_entry_later,
