@@ -5,10 +5,11 @@ use Rattle.cove_base.specs.Guards.{Guard}
 use Rattle.cove_base.specs.Places.{count_word}
 use Rattle.cove_base.specs.Stores.{stored, AllAllowed}
 use Rattle.cove_base.specs.declared.calls.HostCall.{HostCall}
+use Rattle.cove_base.specs.declared.calls.HostCall.TheVariants.{Info}
 use Rattle.cove_base.specs.declared.statuses.Reply.{Reply}
 use Rattle.cove_base.specs.declared.statuses.Status.TheVariants.{NotSupported, Success}
 use Rattle.cove_core.specs.Called.{Called}
-use Rattle.cove_core.specs.Replies.{accepted, refused_with}
+use Rattle.cove_core.specs.Replies.{accepted, refused_with, succeeded}
 use Rattle.cove_model.specs.Answers.{is_built, state_by, effect, value_of, refusal}
 use Rattle.cove_model.specs.HostCalls.{rule}
 use Rattle.cove_model.specs.Refusals.{first_failing, plain}
@@ -16,7 +17,14 @@ use Rattle.cove_model.specs.LawfulStores.{IsLawful, AllowsLawful, no_tables}
 use Rattle.cove_model.specs.Sound.{IsSound}
 use Rattle.cove_model.specs.States.{State}
 use Rattle.cove_model.specs.WordLaws.{Stand}
-use Rattle.cove_model.specs.WordsStand.{FramesStand, epoch_in, number_in}
+use Rattle.cove_model.specs.WordsStand.{FencesWithin, FramesStand, epoch_in, number_in}
+
+-- numbers of fences that stay are within the next one
+pub stays_within : (pages harts : ℕ) (words : List ℕ) (most : ℕ) → FencesWithin pages harts words most → FencesWithin pages harts words (most + 1)
+stays_within pages harts words most within = record {
+  epoch = let epoch = within.epoch in omega arith;
+  numbers = λ t low high. let number : number_in pages harts words t ≤ most = within.numbers t low high in omega arith;
+}
 
 -- a call that every state refuses alike changes nothing
 pub refuses : (pages harts hart : ℕ) (call : HostCall) (words : List ℕ) (frames : List (List ℕ)) (reply : Reply) → ((S : State) → Stand pages harts words S → refusal S hart call ≡ Some reply) → Called pages harts hart call words words frames frames reply
@@ -31,10 +39,7 @@ refuses pages harts hart call words frames reply each = record {
       );
   lawful = ([], tt, refl);
   refused = λ e. (refl, refl);
-  fences = λ most within. record {
-    epoch = let epoch = within.epoch in omega arith;
-    numbers = λ t low high. let number : number_in pages harts words t ≤ most = within.numbers t low high in omega arith;
-  };
+  fences = stays_within pages harts words;
   count = refl;
   size = refl;
 }
@@ -44,6 +49,17 @@ pub unbuilt_refused : (pages harts hart : ℕ) (call : HostCall) (words : List �
 unbuilt_refused pages harts hart call words frames unbuilt =
     refuses pages harts hart call words frames (refused_with NotSupported) (λ S stand.
     ap (λ b. first_failing (plain (not b) NotSupported ∷ (rule S hart call).checks)) unbuilt)
+
+-- and a call for the monitor's state is answered alike in all, and changes nothing
+pub info_answered : (pages harts hart : ℕ) (call : HostCall) (words : List ℕ) (frames : List (List ℕ)) → call ≡ Info → Called pages harts hart call words words frames frames (succeeded 1)
+info_answered pages harts hart call words frames is = subst (λ (k : HostCall). Called pages harts hart k words words frames frames (succeeded 1)) (sym is) (record {
+  serves = λ S sound stand memory. (refl, stand, memory);
+  lawful = ([], tt, refl);
+  refused = λ e. absurd cc;
+  fences = stays_within pages harts words;
+  count = refl;
+  size = refl;
+})
 
 -- what a state must give for an accepted call
 pub record Accepts (pages harts hart : ℕ) (call : HostCall) (new : List ℕ) (now : List (List ℕ)) (S : State) : Type 0 where

@@ -22,6 +22,7 @@ use Rattle.cove_core.specs.Stepped.{IsBehind}
 use Rattle.cove_core.specs.declared.ground.Ground.{Ground}
 use Rattle.cove_core.specs.declared.monitors.Mon.{Mon}
 use Rattle.cove_core.proofs.BoardLemmas.{kept_page_words, stands_ready}
+use Rattle.cove_core.proofs.CallLemmas.{stays_within}
 use Rattle.cove_core.proofs.Clearing.{clear_other, clear_own}
 use Rattle.cove_core.proofs.Entering.{countable}
 use Rattle.cove_core.proofs.Events.{IsRightly, call_rightly, load_done, load_rightly, load_told, store_frames, store_rightly, store_stands, store_told}
@@ -44,7 +45,7 @@ use Rattle.cove_model.specs.Steps.{Takes, host_done}
 use Rattle.cove_model.specs.Translations.{host_touched, tlb}
 use Rattle.cove_model.specs.Cached.{ReachesWhere}
 use Rattle.cove_model.specs.WordLaws.{Stand}
-use Rattle.cove_model.specs.WordsStand.{FencesWithin, FramesStand, number_in}
+use Rattle.cove_model.specs.WordsStand.{FencesWithin, FramesStand}
 
 -- all that is known of an event before it is counted
 pub record Parts (script : ScriptValue) (words : List ℕ) (mon : Mon) (held : HartValue) (line : Line) (now : List ℕ) (frames : List (List ℕ)) (rings : HartRings) (event : Event) : Type 0 where
@@ -55,13 +56,6 @@ pub record Parts (script : ScriptValue) (words : List ℕ) (mon : Mon) (held : H
   pub fences : FencesWithin script.pages script.harts now (length mon.history + 1)
   pub told : IsTold words held.rings (host_touched event)
   pub lawful : MakesLawful script.pages script.harts no_tables held.hart words words now
-
--- numbers that are within one number are within the next
-fences_later : (pages harts : ℕ) (words : List ℕ) (most : ℕ) → FencesWithin pages harts words most → FencesWithin pages harts words (most + 1)
-fences_later pages harts words most within = record {
-  epoch = let epoch = within.epoch in omega arith;
-  numbers = λ t low high. let number : number_in pages harts words t ≤ most = within.numbers t low high in omega arith;
-}
 
 module _ (script : ScriptValue) (within : IsTrue (is_within_limits script)) (words : List ℕ) (mon : Mon) (kept : IsKept script words mon) (held : HartValue) (fits : Fits script mon.history held) (l : ScriptLine) (at : slice_get script.lines held.place ≡ Some l) (next : next_line script held.hart held.ended ≡ Some l) where
   frame_count : length mon.ground.memory ≡ script.pages
@@ -128,7 +122,7 @@ module _ (script : ScriptValue) (within : IsTrue (is_within_limits script)) (wor
         stands = subst (Stand script.pages script.harts words) (sym same) kept.stands;
         frames_stand = subst (FramesStand mon.ground.memory) (sym same) kept.frames;
         count = kept.count;
-        fences = fences_later script.pages script.harts words (length mon.history) kept.fences;
+        fences = stays_within script.pages script.harts words (length mon.history) kept.fences;
         told = load_told words held.rings addr value r (told_rightly script limits mon.history kept.legal words kept.stands held fits l next (page_of addr) asks need rings r did.0.reaches);
         lawful = ([], tt, refl);
       })))
@@ -146,7 +140,7 @@ module _ (script : ScriptValue) (within : IsTrue (is_within_limits script)) (wor
         stands = store_stands script.pages script.harts words S held.hart addr value r kept.stands;
         frames_stand = store_frames mon.ground.memory S held.hart addr value r right.may (access_below (page_of addr) asks) kept.frames;
         count = kept.count;
-        fences = fences_later script.pages script.harts words (length mon.history) kept.fences;
+        fences = stays_within script.pages script.harts words (length mon.history) kept.fences;
         told = store_told words held.rings addr value r (told_rightly script limits mon.history kept.legal words kept.stands held fits l next (page_of addr) asks need rings r did.0.reaches);
         lawful = ([], tt, refl);
       })))

@@ -5,7 +5,7 @@ ghost use Rattle.cove_base.specs.PageWords.{host};
 ghost use Rattle.cove_base.specs.Places.{epoch_word, page_word};
 ghost use Rattle.cove_base.specs.Stores.{AllAllowed, fills, stored};
 ghost use Rattle.cove_core.specs.Called.{Called, IsReady};
-ghost use Rattle.cove_core.specs.Replies.{accepted, refused_with, fault_status};
+ghost use Rattle.cove_core.specs.Replies.{accepted, refused_with, succeeded, fault_status};
 ghost use Rattle.cove_core.specs.Zeros.{AreZeros};
 ghost use Rattle.cove_model.specs.LawfulStores.{AllowsLawful, no_tables};
 ghost use Rattle.cove_model.specs.WordLaws.{zeroed};
@@ -31,6 +31,7 @@ pub fn call<W: Words>(w: &mut W, g: &mut Ground, h: HartId, c: HostCall) -> Repl
         HostCall::GlobalFence => global_fence(w, g, h),
         HostCall::LocalFence => local_fence(w, g, h),
         HostCall::Reclaim { base, n } => reclaim_pages(w, g, h, base, n),
+        HostCall::Info => ready(),
         HostCall::Create { .. }
         | HostCall::Region { .. }
         | HostCall::Tables { .. }
@@ -46,7 +47,6 @@ pub fn call<W: Words>(w: &mut W, g: &mut Ground, h: HartId, c: HostCall) -> Repl
         | HostCall::Remove { .. }
         | HostCall::Destroy { .. }
         | HostCall::Kick { .. }
-        | HostCall::Info
         | HostCall::Bind { .. }
         | HostCall::Unbind { .. }
         | HostCall::Unbound { .. }
@@ -175,6 +175,16 @@ fn success() -> Reply
     Reply {
         status: Status::Success,
         value: 0,
+    }
+}
+
+// The answer to a call for the monitor's state: it is ready.
+fn ready() -> Reply
+    ensures { result ≡ succeeded 1 }
+{
+    Reply {
+        status: Status::Success,
+        value: 1,
     }
 }
 

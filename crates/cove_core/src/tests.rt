@@ -43,7 +43,7 @@ fn calls_of_two_harts_are_answered_in_turn(rt: HostRuntime) -> Result<(), Fail> 
     let alloc = rt.alloc();
     let script = script(alloc)?;
     let mut built = build(alloc, &script)?;
-    let table: [(bool, HostCall, Status, u64); 15] = [
+    let table: [(bool, HostCall, Status, u64); 16] = [
         (false, convert(0x4001, 1), Status::InvalidAddress, 0),
         (false, convert(0x4000, 0), Status::InvalidParam, 0),
         (false, convert(0x4001, 17), Status::InvalidParam, 0),
@@ -58,7 +58,8 @@ fn calls_of_two_harts_are_answered_in_turn(rt: HostRuntime) -> Result<(), Fail> 
         (true, HostCall::LocalFence, Status::Success, 0),
         (false, reclaim(0x4000, 1), Status::Success, 0),
         (false, reclaim(0x5000, 1), Status::InvalidAddress, 0),
-        (false, HostCall::Info, Status::NotSupported, 0),
+        (false, HostCall::Info, Status::Success, 1),
+        (true, HostCall::Destroy { t: 1 }, Status::NotSupported, 0),
     ];
     for (second, c, status, value) in table {
         let reply = answer(&mut built.words, &mut built.mon.ground, second, c);

@@ -1,7 +1,7 @@
 -- Worked scripts and the histories that they play, written by bench/worked.
 use Rattle.std.proofs.Common.{◌≡◌, ℕ, List, [], ◌∷◌, refl}
 use Rattle.cove_base.specs.Scripts.{ScriptValue}
-use Rattle.cove_base.specs.declared.calls.HostCall.TheVariants.{Convert, GlobalFence, LocalFence, Reclaim}
+use Rattle.cove_base.specs.declared.calls.HostCall.TheVariants.{Convert, GlobalFence, LocalFence, Reclaim, Info}
 use Rattle.cove_base.specs.declared.events.Entry.{Entry}
 use Rattle.cove_base.specs.declared.events.Event.{Event}
 use Rattle.cove_base.specs.declared.events.How.TheVariants.{Hit, Walk}
@@ -53,3 +53,8 @@ pub row_8 : played 8 (board 16 2 0 (0 ∷ 0 ∷ 0 ∷ 0 ∷ 0 ∷ 0 ∷ 0 ∷ 0 
     ≡ (by 0 (Event.Call (Convert 16384 1) (reply Success 0)) ∷ by 0 (Event.Call GlobalFence (reply Success 0)) ∷ by 0 (Event.Call (Convert 20480 1) (reply Success 0)) ∷ by 0 (Event.Call GlobalFence (reply AlreadyStarted 1)) ∷ by 1 (Event.Call LocalFence (reply Success 0)) ∷ by 0 (Event.Call (Reclaim 16384 1) (reply Success 0)) ∷ by 0 (Event.Call (Reclaim 20480 1) (reply InvalidAddress 0)) ∷ [])
 unfolding played zeros opening_words identities those least
 row_8 = refl
+
+pub row_r3_a_2 : played 2 (board 16 1 0 (0 ∷ 0 ∷ 0 ∷ 0 ∷ 0 ∷ 0 ∷ 0 ∷ 0 ∷ 0 ∷ 0 ∷ 0 ∷ 0 ∷ 0 ∷ 0 ∷ 0 ∷ 0 ∷ 0 ∷ 0 ∷ 0 ∷ 0 ∷ 0 ∷ 0 ∷ 0 ∷ 0 ∷ 0 ∷ 0 ∷ 0 ∷ 0 ∷ 0 ∷ 0 ∷ 0 ∷ 0 ∷ 0 ∷ 0 ∷ 0 ∷ 0 ∷ 0 ∷ 0 ∷ 0 ∷ 0 ∷ 0 ∷ 0 ∷ 0 ∷ 0 ∷ 0 ∷ 0 ∷ 0 ∷ 0 ∷ []) [] (line 0 0 (Line.Call Info) ∷ []) [])
+    ≡ (by 0 (Event.Call Info (reply Success 1)) ∷ [])
+unfolding played zeros opening_words identities those least
+row_r3_a_2 = refl

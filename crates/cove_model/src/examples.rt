@@ -3,12 +3,12 @@
 
 ghost use Rattle.std.specs.Prelude.{◌≡◌, ℕ, List, [], ◌∷◌, ◌++◌, map, replicate, Some, None, true, false, codes, String, string_bytes};
 ghost use Rattle.std.specs.declared.alloc.Global.{Global};
-ghost use Rattle.cove_base.specs.declared.calls.HostCall.TheVariants.{Convert, Info, LocalFence, Reclaim};
+ghost use Rattle.cove_base.specs.declared.calls.HostCall.TheVariants.{Convert, Destroy, Info, LocalFence, Reclaim};
 ghost use Rattle.cove_base.specs.declared.events.How.TheVariants.{Hit, Walk};
 ghost use Rattle.cove_base.specs.declared.statuses.Status.TheVariants.{InvalidAddress, InvalidParam, NotSupported, Success};
 ghost use Rattle.cove_model.specs.Cached.{IsCached, IsQuiet};
 ghost use Rattle.cove_model.specs.Commands.{accepts};
-ghost use Rattle.cove_model.specs.Answers.{refusal, state_after};
+ghost use Rattle.cove_model.specs.Answers.{refusal, reply_to, state_after};
 ghost use Rattle.cove_model.specs.Examples.{and_back, board, during_a_fence, during_a_fence_history, early_walk, early_walk_history, ended_hits, ended_hits_history, faulted, fence, first_hart_first, fresh, held_before, held_before_history, last_answer, last_answer_history, late, late_history, load, loaded, local_fence, long_fill, once_free, refused, said, second_hart_first, short_fill, stale, stale_history, text, there_and_back, there_and_back_history, three_converted, three_free, to_the_monitor, two_harts, two_phases, walks};
 ghost use Rattle.cove_model.specs.Histories.{Begins, Follows, Legal};
 ghost use Rattle.cove_model.specs.Owners.{Host, is_free, is_host, page_at, zeros};
@@ -41,7 +41,8 @@ pub fn worked_refusals()
     ensures past_memory { refusal fresh 0 (Convert 0x10000 1) ≡ refused InvalidAddress }
     ensures over_the_end { refusal fresh 0 (Convert 0xe000 3) ≡ refused InvalidAddress }
     ensures twice { refusal (state_after fresh 0 (Convert 0x4000 1)) 0 (Convert 0x4000 1) ≡ refused InvalidAddress }
-    ensures not_built { refusal fresh 0 Info ≡ refused NotSupported }
+    ensures not_built { refusal fresh 0 (Destroy 1) ≡ refused NotSupported }
+    ensures info { reply_to fresh 0 Info ≡ record { status = Success; value = 1 } }
 {}
 
 /// Calls for several pages change those pages and no other, and want each of them.

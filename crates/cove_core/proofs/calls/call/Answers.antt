@@ -1,7 +1,10 @@
 use Rattle.std.proofs.Common.{rules, ◌≡◌, false, refl}
-use Rattle.cove_core.proofs.CallLemmas.{same_answer, unbuilt_refused}
+use Rattle.cove_core.proofs.CallLemmas.{info_answered, same_answer, unbuilt_refused}
 use Rattle.cove_model.specs.Answers.{is_built}
 use Rattle.cove_core.proofs.calls.call.Goals as goal
+
+pub returns-in-Info-clause-called : goal.returns-in-Info-clause-called
+returns-in-Info-clause-called g c = same_answer _ _ _ _ _ _ _ _ _ _ _ refl c.ready.ensures (info_answered _ _ _ c.args.c _ _ c.in-Info.is)
 
 pub returns-in-Create : goal.returns-in-Create
 returns-in-Create g c =
