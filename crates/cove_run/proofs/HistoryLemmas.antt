@@ -41,17 +41,8 @@ full_else script open_lines =
 
 -- an event that may be made has a line: guests make none yet
 event_writable : (script : ScriptValue) (S : State) (h : ℕ) (event : Event) → Allows script S h event → is_writable event ≡ true
-event_writable script S h (events.Call call reply) may = refl
-event_writable script S h (events.Load addr how value) may = refl
-event_writable script S h (events.LoadFault addr) may = refl
-event_writable script S h (events.Store addr value how) may = refl
-event_writable script S h (events.StoreFault addr value) may = refl
-event_writable script S h (events.Fetch how) may = refl
-event_writable script S h events.Exec may = refl
-event_writable script S h (events.Access how) may = refl
-event_writable script S h (events.Guest act reply) may = refl
-event_writable script S h (events.Evidence quote) may = refl
 event_writable script S h (events.Exit exit) may = absurd may.1
+event_writable script S h _ may = refl
 
 each_writable : (script : ScriptValue) (before history : List Entry) → EachEntry (λ pre entry. Allows script (after script pre) entry.hart.0 entry.event) before history → AreWritable history
 each_writable script before [] each i d below = absurd (omega arith)
