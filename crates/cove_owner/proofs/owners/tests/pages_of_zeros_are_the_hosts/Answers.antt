@@ -19,4 +19,5 @@ any_mapped-requires-clause-page_words g c page low high =
 
 pub all_free-requires-clause-page_words : goal.all_free-requires-clause-page_words
 all_free-requires-clause-page_words g c page low high =
-    zero_pages _ (c.any_mapped.ensures.unchanged.words ∙ c.all_host.ensures.unchanged.words ∙ c.state.ensures.unchanged.words ∙ c.in_ok-words.ensures) page (omega arith)
+    zero_pages _ (c.any_mapped.ensures.unchanged.words ∙ c.all_host.ensures.unchanged.words ∙ c.state.ensures.unchanged.words ∙ c.in_ok-words.ensures) page
+    (omega arith)
