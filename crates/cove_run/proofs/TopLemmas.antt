@@ -1,14 +1,12 @@
 -- What was read of bytes that are told is what they spell.
-use Rattle.std.proofs.Common.{◌≡◌, ℕ, ◌+◌, ◌<◌, ◌++◌, Bool, true, List, length, length-append, Option, Some, None, Result, Ok, Err, sym, subst, ap, ◌∙◌, arith, ⊎_elim, append-nil}
-use Rattle.std.specs.Prelude.{nat_lt, if◌then◌else◌}
+use Rattle.std.proofs.Common.{◌≡◌, ℕ, ◌+◌, ◌<◌, ◌++◌, List, length, length-append, Option, Some, None, Result, Ok, Err, refl, sym, subst, ap, ◌∙◌, arith, ⊎_elim, append-nil}
 use Rattle.std.proofs.lemmas.Bool.{lt-ltb}
 use Rattle.cove_base.specs.Scripts.{ScriptValue}
-use Rattle.cove_base.specs.Text.{text_lines}
 use Rattle.cove_base.specs.declared.faults.Kind.TheVariants.{TooLong}
 use Rattle.cove_base.specs.declared.faults.ScriptFault.{ScriptFault}
 use Rattle.cove_base.specs.declared.limits.TheConstants.{SCRIPT_LIMIT}
 use Rattle.cove_io.specs.Ends.{TakesExactly}
-use Rattle.cove_model.specs.Grammar.{script_of, fault_at, lines_read, opening_reading}
+use Rattle.cove_model.specs.Grammar.{script_of, fault_at}
 use Rattle.cove_run.specs.TopCall.{Reads, ReadsWhole}
 
 -- more bytes than the limit are the one fault of the whole text
