@@ -1,22 +1,15 @@
 -- What a hart's place in the lines of a script says of its next line.
-use Rattle.std.proofs.Common.{◌≡◌, ℕ, zero, suc, ◌+◌, ◌<◌, Bool, true, List, [], ◌∷◌, Option, None, Some, IfSome, IsSome, length, drop, filter, slice_get, refl, sym, ◌∙◌, ap, arith, add-one}
+use Rattle.std.proofs.Common.{◌≡◌, ℕ, ◌+◌, ◌<◌, Bool, true, List, [], ◌∷◌, IfSome, IsSome, length, drop, filter, slice_get, refl, sym, ◌∙◌, ap, arith}
 use Rattle.std.proofs.lemmas.Bool.{eq-eqb}
-use Rattle.cove_base.specs.declared.scripts.ScriptLine.{ScriptLine}
+use Rattle.std.proofs.lemmas.Grind.{common_steps}
+use Rattle.std.proofs.lemmas.List.{drop-drop}
+use Rattle.std.proofs.lemmas.Option.{IfSome_then, gets}
 use Rattle.cove_base.specs.HartLines.{lines_of, next_line}
 use Rattle.cove_base.specs.HartPlaces.{is_line_of, IsNextPlace}
 use Rattle.cove_base.specs.Scripts.{ScriptValue}
 
 first-drop : {X : Type 0} (xs : List X) (n : ℕ) → slice_get (drop n xs) 0 ≡ slice_get xs n
-first-drop [] zero = refl
-first-drop [] (suc n) = refl
-first-drop (x ∷ xs) zero = refl
-first-drop (x ∷ xs) (suc n) = first-drop xs n
-
-pub drop_one-drop : {X : Type 0} (xs : List X) (n : ℕ) → drop 1 (drop n xs) ≡ drop (suc n) xs
-drop_one-drop [] zero = refl
-drop_one-drop [] (suc n) = refl
-drop_one-drop (x ∷ xs) zero = refl
-drop_one-drop (x ∷ xs) (suc n) = drop_one-drop xs n
+first-drop xs n = grind (arith, common_steps, gets)
 
 module _ {X : Type 0} (p : X → Bool) where
   first-filter : (xs : List X) → IfSome (slice_get xs 0) (λ x. p x ≡ true) → slice_get (filter p xs) 0 ≡ slice_get xs 0
@@ -28,17 +21,13 @@ module _ {X : Type 0} (p : X → Bool) where
   filter-rest (x ∷ xs) passes = rw passes
 
 within-some : {X : Type 0} (xs : List X) (n : ℕ) → IsSome (slice_get xs n) → n < length xs
-within-some [] n some = cc
-within-some (x ∷ xs) zero some = omega arith
-within-some (x ∷ xs) (suc n) some = omega (arith, within-some xs n some)
-
-is_own : (hart : ℕ) (line : Option ScriptLine) → IfSome line (λ l. l.hart.0 ≡ hart) → IfSome line (λ l. is_line_of hart l ≡ true)
-is_own hart None own = tt
-is_own hart (Some line) own = eq-eqb line.hart.0 hart own
+within-some xs n some = grind (arith, gets)
 
 module _ (script : ScriptValue) (hart ended place : ℕ) (stands : IsNextPlace script hart ended place) where
   starts : IfSome (slice_get (drop place script.lines) 0) (λ l. is_line_of hart l ≡ true)
-  starts = rw first-drop (is_own hart (slice_get script.lines place) stands.here)
+  starts =
+      rw first-drop
+      (IfSome_then (slice_get script.lines place) {P = λ l. l.hart.0 ≡ hart} {Q = λ l. is_line_of hart l ≡ true} stands.here (λ l. eq-eqb l.hart.0 hart))
 
   -- the line at the place is the hart's next line
   pub line_at_place : slice_get script.lines place ≡ next_line script hart ended
@@ -51,12 +40,10 @@ module _ (script : ScriptValue) (hart ended place : ℕ) (stands : IsNextPlace s
   -- one place on stand all that the hart has not ended once it has ended its next line
   pub after_place : filter (is_line_of hart) (drop (place + 1) script.lines) ≡ drop (ended + 1) (lines_of script hart)
   after_place =
-      ap (λ n. filter (is_line_of hart) (drop n script.lines)) (add-one place)
-      ∙ ap (filter (is_line_of hart)) (sym (drop_one-drop script.lines place))
+      ap (filter (is_line_of hart)) (sym (drop-drop 1 place script.lines))
       ∙ filter-rest (is_line_of hart) (drop place script.lines) starts
       ∙ ap (drop 1) stands.rest
-      ∙ drop_one-drop (lines_of script hart) ended
-      ∙ ap (λ n. drop n (lines_of script hart)) (sym (add-one ended))
+      ∙ drop-drop 1 ended (lines_of script hart)
 
   -- a place with a line is within the script's lines
   pub place_within : IsSome (next_line script hart ended) → place < length script.lines

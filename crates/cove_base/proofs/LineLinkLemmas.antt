@@ -1,11 +1,12 @@
 -- The links of a script's lines, as a line is appended, and what a link says of the lines that it passes over.
-use Rattle.std.proofs.Common.{Result, Ok, Err, OnOk, is_err, ◌≡◌, ◌≢◌, ℕ, zero, suc, ◌+◌, ◌<◌, ◌≤◌, ◌⊎◌, inl, inr, false, List, [], ◌∷◌, ◌++◌, Option, None, Some, IfSome, length, drop, filter, slice_get, get_or, set, replicate, refl, sym, ◌∙◌, ap, subst, arith, length-append}
+use Rattle.std.proofs.Common.{option_map, Result, Ok, Err, OnOk, is_err, ◌≡◌, ◌≢◌, ℕ, zero, suc, ◌+◌, ◌<◌, ◌≤◌, ◌⊎◌, inl, inr, false, List, [], ◌∷◌, ◌++◌, Some, IfSome, length, drop, filter, slice_get, get_or, set, replicate, refl, sym, ◌∙◌, ap, subst, arith}
 use Rattle.std.proofs.lemmas.Bool.{cases_eq, ne_eqb}
-use Rattle.std.proofs.lemmas.Grind.{get_or_default_zero}
-use Rattle.std.proofs.lemmas.List.{get_or_append_left, get_or-set_same, get_or-set_other, length-map, length-set}
-use Rattle.std.proofs.Math.Seq.{get_or-append_seam}
+use Rattle.std.proofs.lemmas.Grind.{get_or_default_zero, get_or-set_at}
+use Rattle.std.proofs.lemmas.List.{drop_all, get_or_append_left, get_or_past, get_or_push, length_push, get_or-replicate, get_or-set_other, length-map, length-set}
+use Rattle.std.proofs.lemmas.Option.{get_or_from_slice_get, slice_get-map, slice_get_past}
 use Rattle.cove_base.specs.declared.scripts.ScriptLine.{ScriptLine}
 use Rattle.cove_base.specs.HartPlaces.{is_line_of}
+use Rattle.cove_base.proofs.ScriptLimits.{if_some}
 use Rattle.cove_base.specs.LineLinks.{harts_of, IsLink, IsEnd, IsLinked, linked}
 
 -- a 0 appended to a list of numbers reads as no number does
@@ -15,23 +16,13 @@ append-zero [] (suc i) = refl
 append-zero (x ∷ xs) zero = refl
 append-zero (x ∷ xs) (suc i) = append-zero xs i
 
--- a number past the end of a list reads as 0
-past-zero : (xs : List ℕ) (i : ℕ) → length xs ≤ i → get_or xs i 0 ≡ 0
-past-zero [] zero past = refl
-past-zero [] (suc i) past = refl
-past-zero (x ∷ xs) zero past = absurd (omega arith)
-past-zero (x ∷ xs) (suc i) past = past-zero xs i (omega arith)
-
 linked-other : (links : List ℕ) (end place i : ℕ) → i + 1 ≢ end → get_or (linked links end place) i 0 ≡ get_or links i 0
 linked-other links zero place i other = refl
-linked-other links (suc before) place i other =
-    let apart : i ≢ before = omega arith in get_or-set_other links before i place 0 apart
+linked-other links (suc before) place i other = get_or-set_other links before i place 0 (omega arith)
 
 linked-own : (links : List ℕ) (end place i : ℕ) → i + 1 ≡ end → i < length links → get_or (linked links end place) i 0 ≡ place
 linked-own links zero place i own within = absurd (omega arith)
-linked-own links (suc before) place i own within =
-    let same : i ≡ before = omega arith in
-    ap (λ b. get_or (set links b place) i 0) (sym same) ∙ get_or-set_same links i place 0 within
+linked-own links (suc before) place i own within = get_or-set_at links before i place 0 (omega arith) (omega arith)
 
 linked-length : (links : List ℕ) (end place : ℕ) → length (linked links end place) ≡ length links
 linked-length links zero place = refl
@@ -42,10 +33,10 @@ module _ (harts : List ℕ) (hart : ℕ) where
   before i within = get_or_append_left harts (hart ∷ []) 0 i within
 
   at_end : (i : ℕ) → i ≡ length harts → get_or (harts ++ hart ∷ []) i 0 ≡ hart
-  at_end i is = ap (λ k. get_or (harts ++ hart ∷ []) k 0) is ∙ get_or-append_seam harts hart [] 0
+  at_end i is = get_or_push harts hart 0 i (sym is)
 
   longer : length (harts ++ hart ∷ []) ≡ length harts + 1
-  longer = length-append harts (hart ∷ [])
+  longer = length_push harts hart
 
   -- the line before the end is the only one of its hart that no line of that hart follows
   followed : (end place : ℕ) → IsEnd harts hart end → place < length harts → place + 1 ≢ end
@@ -67,8 +58,7 @@ module _ (harts : List ℕ) (hart : ℕ) where
     within = λ p. omega (arith, longer, was.within p);
     same = λ p. before link (was.within p) ∙ was.same p ∙ sym (before place within);
     first = λ i low high e.
-        let some : 0 < link = omega arith in
-        let inside : i < length harts = omega (arith, was.within some) in
+        let inside : i < length harts = omega (arith, was.within (omega arith)) in
         was.first i low high (sym (before i inside) ∙ e ∙ before place within);
     none = λ z i low high e.
         elim (cases_eq i (length harts)) [
@@ -79,20 +69,20 @@ module _ (harts : List ℕ) (hart : ℕ) where
         ];
   }
 
-  link_own : (end place : ℕ) → IsEnd harts hart end → place + 1 ≡ end → IsLink (harts ++ hart ∷ []) place (length harts)
-  link_own end place own is =
+  link_own : (end place link : ℕ) → IsEnd harts hart end → place + 1 ≡ end → link ≡ length harts → IsLink (harts ++ hart ∷ []) place link
+  link_own end place link own is here =
       let within : place < length harts = omega (arith, own.within) in
       let mine = before place within ∙ own.own place (sym is) in
       record {
-        later = λ _. within;
+        later = λ _. omega arith;
         within = λ _. omega (arith, longer);
-        same = λ _. at_end (length harts) refl ∙ sym mine;
-        first = λ i low high e. own.last i (omega arith) high (sym (before i high) ∙ e ∙ mine);
+        same = λ _. at_end link here ∙ sym mine;
+        first = λ i low high e. own.last i (omega arith) (omega arith) (sym (before i (omega arith)) ∙ e ∙ mine);
         none = λ z i low high e. absurd (omega arith);
       }
 
-  link_last : IsLink (harts ++ hart ∷ []) (length harts) 0
-  link_last = record {
+  link_last : (place link : ℕ) → place ≡ length harts → link ≡ 0 → IsLink (harts ++ hart ∷ []) place link
+  link_last place link here none = record {
     later = λ p. absurd (omega arith);
     within = λ p. absurd (omega arith);
     same = λ p. absurd (omega arith);
@@ -100,10 +90,10 @@ module _ (harts : List ℕ) (hart : ℕ) where
     none = λ z i low high e. absurd (omega (arith, longer));
   }
 
-  end_own : IsEnd (harts ++ hart ∷ []) hart (length harts + 1)
-  end_own = record {
+  end_own : (own end : ℕ) → own ≡ hart → end ≡ length harts + 1 → IsEnd (harts ++ hart ∷ []) own end
+  end_own own end is here = record {
     within = omega (arith, longer);
-    own = λ i is. at_end i (omega arith);
+    own = λ i last. at_end i (omega arith) ∙ sym is;
     last = λ i low high e. absurd (omega (arith, longer));
   }
 
@@ -143,31 +133,23 @@ linked_push harts links ends hart was small = record {
         → IsLink (harts ++ hart ∷ []) place (get_or (linked (links ++ 0 ∷ []) (get_or ends hart 0) (length harts)) place 0)
     link place within (inl is) (inl mine) = absurd (omega (arith, own.within))
     link place within (inl is) (inr other) =
-        let past : length links ≤ place = omega (arith, was.lengths) in
-        let none = linked-other (links ++ 0 ∷ []) (get_or ends hart 0) (length harts) place other
-        ∙ append-zero links place ∙ past-zero links place past in
-        subst (λ l. IsLink (harts ++ hart ∷ []) place l) (sym none)
-        (subst (λ p. IsLink (harts ++ hart ∷ []) p 0) (sym is) (link_last harts hart))
+        link_last harts hart place _ is
+        (linked-other (links ++ 0 ∷ []) (get_or ends hart 0) (length harts) place other
+        ∙ append-zero links place ∙ get_or_past links place 0 (omega (arith, was.lengths)))
     link place within (inr not_last) (inl mine) =
-        let inside : place < length (links ++ 0 ∷ []) = omega (arith, longer links 0, longer harts hart, was.lengths) in
-        subst (λ l. IsLink (harts ++ hart ∷ []) place l)
-        (sym (linked-own (links ++ 0 ∷ []) (get_or ends hart 0) (length harts) place mine inside))
-        (link_own harts hart (get_or ends hart 0) place own mine)
+        link_own harts hart (get_or ends hart 0) place _ own mine
+        (linked-own (links ++ 0 ∷ []) (get_or ends hart 0) (length harts) place mine (omega (arith, longer links 0, longer harts hart, was.lengths)))
     link place within (inr not_last) (inr other) =
         let inside : place < length harts = omega (arith, longer harts hart) in
-        let kept = linked-other (links ++ 0 ∷ []) (get_or ends hart 0) (length harts) place other ∙ append-zero links place in
-        subst (λ l. IsLink (harts ++ hart ∷ []) place l) (sym kept)
+        rw (linked-other (links ++ 0 ∷ []) (get_or ends hart 0) (length harts) place other, append-zero links place)
         (link_before harts hart (get_or ends hart 0) place (get_or links place 0) own inside other (was.each place inside))
 
     end : (other : ℕ) → other < 256 → (other ≡ hart) ⊎ (other ≡ hart → ⊥)
         → IsEnd (harts ++ hart ∷ []) other (get_or (set ends hart (length harts + 1)) other 0)
     end other within (inl is) =
-        let inside : hart < length ends = omega (arith, was.all) in
-        subst (λ h. IsEnd (harts ++ hart ∷ []) h (get_or (set ends hart (length harts + 1)) h 0)) (sym is)
-        (subst (λ e. IsEnd (harts ++ hart ∷ []) hart e) (sym (get_or-set_same ends hart (length harts + 1) 0 inside)) (end_own harts hart))
+        end_own harts hart other _ is (get_or-set_at ends hart other (length harts + 1) 0 is (omega (arith, was.all)))
     end other within (inr apart) =
-        subst (λ e. IsEnd (harts ++ hart ∷ []) other e) (sym (get_or-set_other ends hart other (length harts + 1) 0 apart))
-        (end_other harts hart other (get_or ends other 0) apart (was.kept other within))
+        rw (get_or-set_other ends hart other (length harts + 1) 0 apart) (end_other harts hart other (get_or ends other 0) apart (was.kept other within))
 
 -- the same, at the lists and numbers that equal these
 pub linked_by : (harts links ends : List ℕ) (hart : ℕ) (harts' links' linked_links : List ℕ) (at place len : ℕ)
@@ -177,12 +159,6 @@ pub linked_by : (harts links ends : List ℕ) (hart : ℕ) (harts' links' linked
     → IsLinked harts' linked_links (set ends at len)
 linked_by harts links ends hart harts' links' linked_links at place len was small harts_is links_is linked_is at_is place_is len_is =
     rw (linked_is, links_is, len_is, at_is, place_is, harts_is, longer harts hart) (linked_push harts links ends hart was small)
-
-zeros : (n i : ℕ) → get_or (replicate n zero) i zero ≡ zero
-zeros zero zero = refl
-zeros zero (suc i) = refl
-zeros (suc n) zero = refl
-zeros (suc n) (suc i) = zeros n i
 
 end_none : (hart : ℕ) → IsEnd [] hart 0
 end_none hart = record {
@@ -197,40 +173,27 @@ linked_none = record {
   lengths = refl;
   all = refl;
   each = λ place within. absurd (omega arith);
-  kept = λ hart _. subst (λ e. IsEnd [] hart e) (sym (zeros 256 hart)) (end_none hart);
+  kept = λ hart small. subst (λ e. IsEnd [] hart e) (sym (get_or-replicate 256 hart 0 0 small)) (end_none hart);
 }
 
 -- passing over lines of other harts leaves the hart's lines
 pass_over : (hart : ℕ) (lines : List ScriptLine) (from to : ℕ) → from ≤ to
     → ((i : ℕ) → from ≤ i → i < to → get_or (harts_of lines) i 0 ≢ hart)
     → filter (is_line_of hart) (drop to lines) ≡ filter (is_line_of hart) (drop from lines)
-pass_over hart [] zero zero order others = refl
-pass_over hart [] zero (suc to) order others = refl
-pass_over hart [] (suc from) zero order others = refl
-pass_over hart [] (suc from) (suc to) order others = refl
+pass_over hart [] from to order others = rw (drop_all {X = ScriptLine} from [] (omega arith), drop_all {X = ScriptLine} to [] (omega arith)) refl
 pass_over hart (line ∷ lines) zero zero order others = refl
 pass_over hart (line ∷ lines) (suc from) zero order others = absurd (omega arith)
 pass_over hart (line ∷ lines) zero (suc to) order others =
-    let rest = pass_over hart lines zero to (omega arith) (λ i low high. others (suc i) (omega arith) (omega arith)) in
     let other = ne_eqb line.hart.0 hart (others zero (omega arith) (omega arith)) in
-    rest ∙ sym (rw other refl)
+    pass_over hart lines zero to (omega arith) (λ i low high. others (suc i) (omega arith) (omega arith)) ∙ sym (rw other refl)
 pass_over hart (line ∷ lines) (suc from) (suc to) order others =
     pass_over hart lines from to (omega arith) (λ i low high. others (suc i) (omega arith) (omega arith))
 
-if_some : {X : Type 0} (o : Option X) (P : X → Type 0) → ((x : X) → o ≡ Some x → P x) → IfSome o P
-if_some None P holds = tt
-if_some (Some x) P holds = holds x refl
-
-abbrev hart_of : Option ScriptLine → ℕ
-hart_of None = 0
-hart_of (Some line) = line.hart.0
-
 hart_at : (lines : List ScriptLine) (place : ℕ) (line : ScriptLine) → slice_get lines place ≡ Some line
     → get_or (harts_of lines) place 0 ≡ line.hart.0
-hart_at [] zero line is = cc
-hart_at [] (suc place) line is = cc
-hart_at (l ∷ lines) zero line is = ap hart_of is
-hart_at (l ∷ lines) (suc place) line is = hart_at lines place line is
+hart_at lines place line is =
+    let hart = λ (l : ScriptLine). l.hart.0 in
+    get_or_from_slice_get (harts_of lines) place line.hart.0 0 (slice_get-map hart lines place ∙ ap (option_map hart) is)
 
 -- the link that is read at a place with a line
 pub link_of : (inside lines : List ScriptLine) (links ends : List ℕ) (place link : ℕ)
@@ -261,16 +224,12 @@ same_hart lines place to same =
     if_some (slice_get lines to) _ (λ line there.
     sym (hart_at lines to line there) ∙ same ∙ hart_at lines place own is))
 
-no_line : {X : Type 0} (xs : List X) → slice_get xs (length xs) ≡ None
-no_line [] = refl
-no_line (x ∷ xs) = no_line xs
-
 -- no line stands at the end
 pub past_end : (lines : List ScriptLine) (place : ℕ)
     → IfSome (slice_get lines place) (λ own. IfSome (slice_get lines (length lines)) (λ line. line.hart.0 ≡ own.hart.0))
 past_end lines place =
     if_some (slice_get lines place) _ (λ own _.
-    subst (λ o. IfSome o (λ line. line.hart.0 ≡ own.hart.0)) (sym (no_line lines)) tt)
+    subst (λ o. IfSome o (λ line. line.hart.0 ≡ own.hart.0)) (sym (slice_get_past lines (length lines) (omega arith))) tt)
 
 pub when_ok : {T E P : Type 0} (r : Result T E) → OnOk r P → is_err r ≡ false → P
 when_ok (Ok x) holds ok = holds

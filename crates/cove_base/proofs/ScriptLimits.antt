@@ -1,13 +1,19 @@
 -- What the limits of a script say of its board, its lines and its turns.
-use Rattle.std.proofs.Common.{◌≡◌, ℕ, zero, suc, ◌*◌, ◌/◌, ◌%◌, ◌^◌, ◌<◌, ◌≤◌, Bool, true, ◌==◌, ◌&&◌, List, [], ◌∷◌, Option, None, Some, IfSome, IsTrue, nat_lt, nat_le, length, slice_get, refl, subst, arith}
+use Rattle.std.proofs.Common.{◌≡◌, ℕ, ◌*◌, ◌/◌, ◌%◌, ◌^◌, ◌<◌, ◌≤◌, Bool, true, ◌==◌, ◌&&◌, List, [], ◌∷◌, Option, None, Some, IfSome, IsTrue, nat_lt, nat_le, length, slice_get, refl, subst, arith}
 use Rattle.std.specs.List.{AllByRecursion, list_all}
 use Rattle.std.proofs.lemmas.Bool.{and_parts, and_from, ltb-true, leb-true}
+use Rattle.std.proofs.lemmas.List.Elements.{All-from_recursion}
+use Rattle.std.proofs.lemmas.Option.{get_or_from_slice_get, same_Some, slice_get_within}
 use Rattle.cove_base.specs.HartValues.{accessed_page}
 use Rattle.cove_base.specs.Scripts.{ScriptValue, is_within_limits, is_script_line, is_line_within, is_word_address, is_fill, phases_rise_from}
 use Rattle.cove_base.specs.declared.limits.TheConstants.{PAGE_LIMIT, HART_LIMIT, FILE_LIMIT, KEY_LIMIT, PHASE_LIMIT}
 use Rattle.cove_base.specs.declared.scripts.Line.{Line}
 use Rattle.cove_base.specs.declared.scripts.Line.TheVariants.{Call, Load, Store}
 use Rattle.cove_base.specs.declared.scripts.ScriptLine.{ScriptLine}
+
+pub if_some : {X : Type 0} (o : Option X) (P : X → Type 0) → ((x : X) → o ≡ Some x → P x) → IfSome o P
+if_some None P holds = tt
+if_some (Some x) P holds = holds x refl
 
 -- a list passes a test that follows from another one that it passes
 pub all_weaker : {X : Type 0} (p q : X → Bool) → ((x : X) → p x ≡ true → q x ≡ true) → (xs : List X) → list_all p xs ≡ true → list_all q xs ≡ true
@@ -95,14 +101,6 @@ limits_from_tests script t =
 pub limits_of : (script : ScriptValue) → IsTrue (is_within_limits script) → Limits script
 limits_of script e = limits_from_tests script (tests_of script e)
 
--- the line at a place
-within_at : (pages harts : ℕ) (lines : List ScriptLine) (i : ℕ) (line : ScriptLine) → AllByRecursion (IsWithin pages harts) lines → slice_get lines i ≡ Some line → IsWithin pages harts line
-within_at pages harts [] i line all at = cc
-within_at pages harts (x ∷ xs) zero line all at =
-    let same : x ≡ line = cc in
-    subst (IsWithin pages harts) same all.0
-within_at pages harts (x ∷ xs) (suc i) line all at = within_at pages harts xs i line all.1 at
-
 -- the page of a word of the board
 word_within : (pages addr : ℕ) → is_word_address pages addr ≡ true → addr / 4096 < pages
 word_within pages addr word =
@@ -112,30 +110,20 @@ word_within pages addr word =
 -- the page of an access that is within the board
 page_within : (pages : ℕ) (line : Line) (p : ℕ) → is_line_within pages line ≡ true → accessed_page line ≡ Some p → p < pages
 page_within pages (Call call) p within asks = cc
-page_within pages (Load addr) p within asks =
-    let same : addr / 4096 ≡ p = cc in
-    subst (λ q. q < pages) same (word_within pages addr within)
-page_within pages (Store addr value) p within asks =
-    let same : addr / 4096 ≡ p = cc in
-    subst (λ q. q < pages) same (word_within pages addr within)
+page_within pages (Load addr) p within asks = subst (λ q. q < pages) (same_Some (addr / 4096) p asks) (word_within pages addr within)
+page_within pages (Store addr value) p within asks = subst (λ q. q < pages) (same_Some (addr / 4096) p asks) (word_within pages addr within)
 
 -- the page of a line of the script is one of the board
 pub line_page : (script : ScriptValue) → IsTrue (is_within_limits script) → (i : ℕ) (line : ScriptLine) (p : ℕ) → slice_get script.lines i ≡ Some line → accessed_page line.line ≡ Some p → p < script.pages
 line_page script within i line p at asks =
-    page_within script.pages line.line p (within_at script.pages script.harts script.lines i line (limits_of script within).lines at).line asks
+    let P : ScriptLine → Type 0 = IsWithin script.pages script.harts in
+    let all = All-from_recursion P script.lines (limits_of script within).lines i line (slice_get_within script.lines i line at) in
+    page_within script.pages line.line p (subst P (get_or_from_slice_get script.lines i line line at) all).line asks
 
 -- the page of an access of a script has a number of 32 bits
 pub small_pages : (script : ScriptValue) → IsTrue (is_within_limits script) → (i : ℕ)
     → IfSome (slice_get script.lines i) (λ line. IfSome (accessed_page line.line) (λ page. page < 2 ^ 32))
-small_pages script within i = of_line (slice_get script.lines i) refl
-  where
-    of_page : (line : ScriptLine) (page : Option ℕ) → slice_get script.lines i ≡ Some line → accessed_page line.line ≡ page → IfSome page (λ page. page < 2 ^ 32)
-    of_page line None at asks = tt
-    of_page line (Some page) at asks =
-        let on_board : page < script.pages = line_page script within i line page at asks in
-        let few = (limits_of script within).few_pages in
-        omega arith
-
-    of_line : (line : Option ScriptLine) → slice_get script.lines i ≡ line → IfSome line (λ l. IfSome (accessed_page l.line) (λ page. page < 2 ^ 32))
-    of_line None at = tt
-    of_line (Some line) at = of_page line (accessed_page line.line) at refl
+small_pages script within i =
+    if_some (slice_get script.lines i) _ (λ line at.
+    if_some (accessed_page line.line) _ (λ page asks.
+    omega (arith, line_page script within i line page at asks, (limits_of script within).few_pages)))

@@ -1,7 +1,7 @@
-use Rattle.std.proofs.Common.{◌≡◌, ◌≢◌, ℕ, zero, suc, ◌+◌, ◌-◌, ap, ◌<◌, ◌≤◌, inl, inr, List, [], ◌∷◌, ◌++◌, length, set, refl, ◌∙◌, arith, length-set, get_or-set_other}
+use Rattle.std.proofs.Common.{◌≡◌, ℕ, zero, suc, ◌+◌, ◌-◌, ap, ◌<◌, inl, inr, List, [], ◌∷◌, length, set, refl, ◌∙◌, arith, length-set, get_or-set_other}
 use Rattle.std.proofs.lemmas.Bool.{cases_lt}
 use Rattle.std.proofs.lemmas.Grind.{get_or-set_at}
-use Rattle.cove_base.specs.Stores.{stored, AllAllowed, fills, StoresKeepLength, StoresKeepOthers, StoresAppend, FillsWrite, FillsKeepOthers}
+use Rattle.cove_base.specs.Stores.{AllAllowed, fills, StoresKeepLength, StoresKeepOthers, StoresAppend, FillsWrite, FillsKeepOthers}
 
 pub length-stored : StoresKeepLength
 length-stored words [] = refl
@@ -16,11 +16,6 @@ pub stored-append : StoresAppend
 stored-append words [] ts = refl
 stored-append words (s ∷ ss) ts = stored-append (set words s.0 s.1) ss ts
 
--- allowed stores, and more that are allowed after them
-pub AllAllowed-append : (allows : List ℕ → ℕ → ℕ → Type 0) (words : List ℕ) (ss ts : List (ℕ × ℕ)) → AllAllowed allows words ss → AllAllowed allows (stored words ss) ts → AllAllowed allows words (ss ++ ts)
-AllAllowed-append allows words [] ts h k = k
-AllAllowed-append allows words (s ∷ ss) ts h k = (h.0, AllAllowed-append allows (set words s.0 s.1) ss ts h.1 k)
-
 -- what one test allows, a weaker one allows
 pub AllAllowed-weaker : (allows more : List ℕ → ℕ → ℕ → Type 0) (words : List ℕ) (ss : List (ℕ × ℕ)) → ((ws : List ℕ) (place word : ℕ) → allows ws place word → more ws place word) → AllAllowed allows words ss → AllAllowed more words ss
 AllAllowed-weaker allows more words [] weaker h = tt
@@ -29,14 +24,8 @@ AllAllowed-weaker allows more words (s ∷ ss) weaker h =
 
 pub get_or-fills_other : FillsKeepOthers
 get_or-fills_other words first zero word place h = refl
-get_or-fills_other words first (suc n) word place (inl below) =
-    let apart : place ≢ first = omega arith in
-    let less : place < first + 1 = omega arith in
-    get_or-fills_other (set words first word) (first + 1) n word place (inl less) ∙ get_or-set_other words first place word 0 apart
-get_or-fills_other words first (suc n) word place (inr behind) =
-    let apart : place ≢ first = omega arith in
-    let more : first + 1 + n ≤ place = omega arith in
-    get_or-fills_other (set words first word) (first + 1) n word place (inr more) ∙ get_or-set_other words first place word 0 apart
+get_or-fills_other words first (suc n) word place h =
+    get_or-fills_other (set words first word) (first + 1) n word place (grind arith) ∙ get_or-set_other words first place word 0 (grind arith)
 
 pub get_or-fills : FillsWrite
 get_or-fills words first zero word place low high within = absurd (omega arith)

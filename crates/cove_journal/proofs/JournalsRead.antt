@@ -1,24 +1,24 @@
 -- A printed journal reads as the history that it was printed of, and no other text reads as that.
-use Rattle.std.proofs.Common.{◌≡◌, ℕ, ◌-◌, Bool, true, false, ◌&&◌, List, [], ◌∷◌, ◌++◌, length, map, take, get_or, flat_map, Option, Some, None, option_map, option_and_then, bytes_eq, codes, IsTrue, refl, sym, ap, subst, ◌∙◌, arith}
+use Rattle.std.proofs.Common.{◌≡◌, ℕ, ◌-◌, Bool, true, false, ◌&&◌, List, [], ◌∷◌, ◌++◌, length, map, take, get_or, flat_map, Option, Some, None, option_map, option_and_then, bytes_eq, codes, IsTrue, inl, inr, refl, sym, ap, ◌∙◌, arith}
 use Rattle.std.specs.Prelude.{if◌then◌else◌}
 use Rattle.std.specs.List.{list_all}
-use Rattle.std.proofs.lemmas.Bool.{and_from, and_parts}
+use Rattle.std.proofs.lemmas.Bool.{and_from, and_parts, cases_Bool, false_from_ne_true}
 use Rattle.std.proofs.lemmas.Grind.{flat_map-append}
 use Rattle.std.proofs.lemmas.List.{append-nil, append_cancel_left, length-map, length_push, take_at}
-use Rattle.std.proofs.lemmas.List.Folds.{flat_map-map, list_all-append}
-use Rattle.std.proofs.lemmas.Option.{none-some, option_and_then_some, same_Some}
+use Rattle.std.proofs.lemmas.List.Folds.{flat_map-map, list_all-append, list_all-map}
+use Rattle.std.proofs.lemmas.Option.{cond_some, none-some, option_and_then_some, same_Some, some_pair_parts}
 use Rattle.std.proofs.lemmas.Slice.Eq.{bytes_eq-Decides}
 use Rattle.cove_base.specs.Numbers.{natural_text}
 use Rattle.cove_base.specs.Text.{text_lines, text_words}
 use Rattle.cove_base.specs.declared.events.Entry.{Entry}
 use Rattle.cove_base.proofs.JoinedWords.{is_line_byte, joined_in_line, text_lines-ended}
+use Rattle.cove_base.proofs.ScriptLimits.{all_weaker}
 use Rattle.cove_model.specs.Reports.{ended_line, entry_line, entry_lines, entry_words, report, report_limit}
 use Rattle.cove_text.proofs.JoinedWords.{is_word-natural_text}
 use Rattle.cove_journal.specs.Journals.{if_reported_by, if_shown_by, is_readable, journal_history, line_entries, line_entry}
 use Rattle.cove_journal.specs.Lines.{last_line_of}
 use Rattle.cove_journal.specs.Reading.{entry_named}
 use Rattle.cove_journal.proofs.EventsRead.{entry_is_read, entry_is_words}
-use Rattle.cove_journal.proofs.HexRead.{false_where_absurd}
 
 -- ---- the lines of a journal
 
@@ -41,10 +41,10 @@ report_is_lines whole history =
     by false = refl
 
 entries_in_line : (history : List Entry) → list_all is_readable history ≡ true → list_all (list_all is_line_byte) (map entry_line history) ≡ true
-entries_in_line [] readable = refl
-entries_in_line (entry ∷ history) readable =
-    let parts = and_parts (is_readable entry) (list_all is_readable history) readable in
-    and_from _ _ (joined_in_line (entry_words entry) (entry_is_words entry parts.0)) (entries_in_line history parts.1)
+entries_in_line history readable =
+    list_all-map (list_all is_line_byte) entry_line history
+    ∙ all_weaker is_readable (λ entry. list_all is_line_byte (entry_line entry))
+    (λ entry has. joined_in_line (entry_words entry) (entry_is_words entry has)) history readable
 
 last_in_line : (whole : Bool) (n : ℕ) → list_all is_line_byte (last_line_of whole n) ≡ true
 last_in_line true n = joined_in_line (codes "end" ∷ natural_text n ∷ []) (and_from _ _ (is_word-natural_text n) refl)
@@ -82,7 +82,7 @@ reports_differ history e =
 
 other_report : (history : List Entry) → bytes_eq (report history) (report_limit history) ≡ false
 other_report history =
-    false_where_absurd (bytes_eq (report history) (report_limit history))
+    false_from_ne_true (bytes_eq (report history) (report_limit history))
     (λ e. reports_differ history ((bytes_eq-Decides (report history) (report_limit history)).0 e))
 
 reported_is_read : (whole : Bool) (history : List Entry) → if_reported_by (report_by whole history) history ≡ Some (history, whole)
@@ -117,52 +117,42 @@ pub record IsShown (line : List ℕ) (entry : Entry) : Type 0 where
   pub is : entry_line entry ≡ line
 
 if_shown : (line : List ℕ) (found entry : Entry) → if_shown_by line found ≡ Some entry → IsShown line entry
-if_shown line found entry e = go (is_readable found && bytes_eq (entry_line found) line) refl e
-  where
-    go : (b : Bool) → (is_readable found && bytes_eq (entry_line found) line) ≡ b → (if b then Some found else None) ≡ Some entry → IsShown line entry
-    go true is same =
-        let parts = and_parts (is_readable found) (bytes_eq (entry_line found) line) is in
-        let P : Entry → Type 0 = λ x. IsShown line x in
-        subst P (same_Some found entry same) (record { has = parts.0; is = (bytes_eq-Decides (entry_line found) line).0 parts.1 })
-    go false is none = absurd (none-some entry none)
+if_shown line found entry e =
+    let same = cond_some (is_readable found && bytes_eq (entry_line found) line) found entry e in
+    let parts = and_parts (is_readable found) (bytes_eq (entry_line found) line) same.0 in
+    rw (← same.1) (record { has = parts.0; is = (bytes_eq-Decides (entry_line found) line).0 parts.1 })
 
 pub shown : (line : List ℕ) (entry : Entry) → line_entry line ≡ Some entry → IsShown line entry
 shown line entry e = option_and_then_some (if_shown_by line) (entry_named (text_words line)) entry e (λ found is. if_shown line found entry)
+
+option_map_some : {A B P : Type 0} (f : A → B) (o : Option A) (y : B) → option_map f o ≡ Some y → ((x : A) → o ≡ Some x → f x ≡ y → P) → P
+option_map_some f None y e goes = absurd (none-some y e)
+option_map_some f (Some x) y e goes = goes x refl (same_Some (f x) y e)
 
 are_readable : (lines : List (List ℕ)) (history : List Entry) → line_entries lines ≡ Some history → list_all is_readable history ≡ true
 are_readable [] history e = ap (list_all is_readable) (sym (same_Some [] history e))
 are_readable (line ∷ lines) history e =
     option_and_then_some (λ first. option_map (λ es. first ∷ es) (line_entries lines)) (line_entry line) history e
-    (λ first found rest. more first (line_entries lines) (shown line first found).has rest (are_readable lines))
-  where
-    more : (first : Entry) (o : Option (List Entry)) → is_readable first ≡ true → option_map (λ es. first ∷ es) o ≡ Some history
-        → ((others : List Entry) → o ≡ Some others → list_all is_readable others ≡ true) → list_all is_readable history ≡ true
-    more first None has none each = absurd (none-some history none)
-    more first (Some others) has same each =
-        ap (list_all is_readable) (sym (same_Some (first ∷ others) history same)) ∙ and_from _ _ has (each others refl)
-
-abbrev Read : Type 0
-Read = List Entry × Bool
-
-abbrev read_as : List Entry → Bool → Read
-read_as history whole = (history, whole)
+    (λ first found rest.
+    option_map_some (λ es. first ∷ es) (line_entries lines) history rest (λ others read is.
+    rw (← is) (and_from _ _ (shown line first found).has (are_readable lines others read))))
 
 -- the history that was read is the one of which the text is the journal
 reported : (text : List ℕ) (found history : List Entry) (whole : Bool) → if_reported_by text found ≡ Some (history, whole)
     → (found ≡ history) × (text ≡ report_by whole history)
-reported text found history whole e = go (bytes_eq (report found) text) refl (bytes_eq (report_limit found) text) refl e
+reported text found history whole e =
+    elim (cases_Bool (bytes_eq (report found) text)) [
+      | inl same ↦ is true same (rw same at e)
+      | inr other ↦
+          let limit = cond_some (bytes_eq (report_limit found) text) (found, false) (history, whole) (rw other at e) in
+          is false limit.0 (ap Some limit.1)
+    ]
   where
-    is : (w : Bool) → text ≡ report_by w found → read_as found w ≡ read_as history whole → (found ≡ history) × (text ≡ report_by whole history)
-    is w journal same =
-        let P : Read → Type 0 = λ r. (found ≡ r.0) × (text ≡ report_by r.1 r.0) in
-        subst P same (refl, journal)
-
-    go : (b : Bool) → bytes_eq (report found) text ≡ b → (c : Bool) → bytes_eq (report_limit found) text ≡ c
-        → (if b then Some (read_as found true) else if c then Some (read_as found false) else None) ≡ Some (read_as history whole)
+    is : (w : Bool) → bytes_eq (report_by w found) text ≡ true → ◌≡◌ {A = Option (List Entry × Bool)} (Some (found, w)) (Some (history, whole))
         → (found ≡ history) × (text ≡ report_by whole history)
-    go true eb c ec same = is true (sym ((bytes_eq-Decides (report found) text).0 eb)) (same_Some (read_as found true) (read_as history whole) same)
-    go false eb true ec same = is false (sym ((bytes_eq-Decides (report_limit found) text).0 ec)) (same_Some (read_as found false) (read_as history whole) same)
-    go false eb false ec none = absurd (none-some (read_as history whole) none)
+    is w same e =
+        let parts = some_pair_parts found history w whole e in
+        (parts.0, rw (← parts.0, ← parts.1) (sym ((bytes_eq-Decides (report_by w found) text).0 same)))
 
 pub exact : (text : List ℕ) (history : List Entry) (whole : Bool) → journal_history text ≡ Some (history, whole)
     → IsTrue (list_all is_readable history) × (text ≡ (if whole then report history else report_limit history))

@@ -41,19 +41,10 @@ full_else script open_lines =
 
 -- an event that may be made has a line: guests make none yet
 event_writable : (script : ScriptValue) (before : List Entry) (h : ℕ) (event : Event) → Allows script (after script before) h event → is_writable event ≡ true
-event_writable script before h (events.Call call reply) may = refl
-event_writable script before h (events.Load addr how value) may = refl
-event_writable script before h (events.LoadFault addr) may = refl
-event_writable script before h (events.Store addr value how) may = refl
-event_writable script before h (events.StoreFault addr value) may = refl
-event_writable script before h (events.Fetch how) may = refl
-event_writable script before h events.Exec may = refl
-event_writable script before h (events.Access how) may = refl
-event_writable script before h (events.Guest act reply) may = refl
-event_writable script before h (events.Evidence quote) may = refl
 event_writable script before h (events.Exit exit) may =
     let due = outside_due script (after script before) h (events.Exit exit) (outside_after script before h) may in
     absurd (none-some due.next.line due.is)
+event_writable script before h _ may = refl
 
 each_writable : (script : ScriptValue) (before history : List Entry) → EachEntry (λ pre entry. Allows script (after script pre) entry.hart.0 entry.event) before history → AreWritable history
 each_writable script before [] each i d below = absurd (omega arith)

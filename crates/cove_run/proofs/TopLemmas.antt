@@ -1,22 +1,18 @@
 -- What was read of bytes that are told is what they spell.
-use Rattle.std.proofs.Common.{◌≡◌, ℕ, ◌+◌, ◌<◌, ◌++◌, Bool, true, List, length, length-append, Option, Some, None, Result, Ok, Err, sym, ap, ◌∙◌, arith, ⊎_elim, append-nil}
-use Rattle.std.specs.Prelude.{nat_lt, if◌then◌else◌}
-use Rattle.std.proofs.lemmas.Bool.Decides.{nat_tests}
+use Rattle.std.proofs.Common.{◌≡◌, ℕ, ◌+◌, ◌<◌, ◌++◌, List, length, length-append, Option, Some, None, Result, Ok, Err, refl, sym, subst, ap, ◌∙◌, arith, ⊎_elim, append-nil}
+use Rattle.std.proofs.lemmas.Bool.{lt-ltb}
 use Rattle.cove_base.specs.Scripts.{ScriptValue}
-use Rattle.cove_base.specs.Text.{text_lines}
 use Rattle.cove_base.specs.declared.faults.Kind.TheVariants.{TooLong}
 use Rattle.cove_base.specs.declared.faults.ScriptFault.{ScriptFault}
 use Rattle.cove_base.specs.declared.limits.TheConstants.{SCRIPT_LIMIT}
 use Rattle.cove_io.specs.Ends.{TakesExactly}
-use Rattle.cove_model.specs.Grammar.{script_of, fault_at, lines_read, opening_reading}
+use Rattle.cove_model.specs.Grammar.{script_of, fault_at}
 use Rattle.cove_run.specs.TopCall.{Reads, ReadsWhole}
 
 -- more bytes than the limit are the one fault of the whole text
 long_text : (limit : ℕ) (bytes : List ℕ) → limit < length bytes → script_of limit bytes ≡ Err (fault_at 0 TooLong)
 unfolding script_of
-long_text limit bytes long =
-    let test : nat_lt limit (length bytes) ≡ true = grind (arith, nat_tests) in
-    ap (λ (b : Bool). if b then Err (fault_at 0 TooLong) else lines_read opening_reading 1 (text_lines bytes)) test
+long_text limit bytes long = rw (lt-ltb limit (length bytes) long) refl
 
 -- where a byte more than the limit was taken, the bytes that were left are too many
 taken_is_long : (limit : ℕ) (new : Option (List ℕ)) (bytes : List ℕ) → TakesExactly (limit + 1) (Some bytes) new → limit < length bytes
@@ -36,14 +32,8 @@ told_reads bytes new found =
     (λ read. ap (script_of SCRIPT_LIMIT) (whole_is_all bytes new read.0 read.1) ∙ read.2)
     (λ long. long_text SCRIPT_LIMIT bytes (taken_is_long SCRIPT_LIMIT new bytes long.0) ∙ sym long.1)
 
-reads_what_is_told : (old new : Option (List ℕ)) (bytes : List ℕ) (found : Result ScriptValue ScriptFault) → old ≡ Some bytes → Reads old new found → script_of SCRIPT_LIMIT bytes ≡ found
-reads_what_is_told None new bytes found told reads = cc
-reads_what_is_told (Some left) new bytes found told reads =
-    let same : left ≡ bytes = cc in
-    sym (ap (script_of SCRIPT_LIMIT) same) ∙ told_reads left new found reads
-
 -- bytes whose fault was read spell no script
 pub faulty_is_no_script : (old new : Option (List ℕ)) (bytes : List ℕ) (fault : ScriptFault) (script : ScriptValue) → old ≡ Some bytes → Reads old new (Err fault) → script_of SCRIPT_LIMIT bytes ≡ Ok script → ⊥
 faulty_is_no_script old new bytes fault script told read spelled =
-    let faulty : script_of SCRIPT_LIMIT bytes ≡ Err fault = reads_what_is_told old new bytes (Err fault) told read in
+    let faulty : script_of SCRIPT_LIMIT bytes ≡ Err fault = told_reads bytes new (Err fault) (subst (λ o. Reads o new (Err fault)) told read) in
     cc

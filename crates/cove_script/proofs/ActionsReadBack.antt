@@ -3,7 +3,7 @@ use Rattle.std.proofs.Common.{◌≡◌, ℕ, zero, suc, ◌<◌, ◌^◌, true,
 use Rattle.std.proofs.lemmas.Bool.{and_from}
 use Rattle.std.specs.List.{list_all}
 use Rattle.cove_base.specs.declared.calls.HostCall.{HostCall}
-use Rattle.cove_base.specs.declared.calls.HostCall.TheVariants.{Convert, GlobalFence, LocalFence, Reclaim, Create, Region, Tables, Measured, Vcpu, Finalize, Zero, Shared, Run, Invalidate, TvmFence, Validate, Remove, Destroy, Kick, Info, Bind, Unbind, Unbound, Inject}
+use Rattle.cove_base.specs.declared.calls.HostCall.TheVariants.{Convert}
 use Rattle.cove_base.specs.declared.scripts.Line.{Line}
 use Rattle.cove_base.specs.declared.scripts.Line.TheVariants.{Call, Load, Store}
 use Rattle.cove_base.specs.CallWords.{word_of, arguments}
@@ -23,29 +23,7 @@ record Names (word : Word) (line : List ℕ → Option Line) (call : HostCall) :
 call_names : (call : HostCall) → Names (word_of call) (line_of (word_of call)) call
 unfolding is_line_word line_of
 call_names (Convert base n) = record { printed = refl; known = refl; made = refl }
-call_names GlobalFence = record { printed = refl; known = refl; made = refl }
-call_names LocalFence = record { printed = refl; known = refl; made = refl }
-call_names (Reclaim base n) = record { printed = refl; known = refl; made = refl }
-call_names (Create root state) = record { printed = refl; known = refl; made = refl }
-call_names (Region t gpa len) = record { printed = refl; known = refl; made = refl }
-call_names (Tables t base n) = record { printed = refl; known = refl; made = refl }
-call_names (Measured t src dst n gpa) = record { printed = refl; known = refl; made = refl }
-call_names (Vcpu t v state) = record { printed = refl; known = refl; made = refl }
-call_names (Finalize t pc arg) = record { printed = refl; known = refl; made = refl }
-call_names (Zero t base n gpa) = record { printed = refl; known = refl; made = refl }
-call_names (Shared t base n gpa) = record { printed = refl; known = refl; made = refl }
-call_names (Run t v fuel) = record { printed = refl; known = refl; made = refl }
-call_names (Invalidate t gpa n) = record { printed = refl; known = refl; made = refl }
-call_names (TvmFence t) = record { printed = refl; known = refl; made = refl }
-call_names (Validate t gpa n) = record { printed = refl; known = refl; made = refl }
-call_names (Remove t gpa n) = record { printed = refl; known = refl; made = refl }
-call_names (Destroy t) = record { printed = refl; known = refl; made = refl }
-call_names (Kick hart) = record { printed = refl; known = refl; made = refl }
-call_names Info = record { printed = refl; known = refl; made = refl }
-call_names (Bind t v hart file) = record { printed = refl; known = refl; made = refl }
-call_names (Unbind t v) = record { printed = refl; known = refl; made = refl }
-call_names (Unbound t v) = record { printed = refl; known = refl; made = refl }
-call_names (Inject t v id) = record { printed = refl; known = refl; made = refl }
+call_names _ = record { printed = refl; known = refl; made = refl }
 
 -- the words of what a hart does make it again
 pub record Acts (word : Word) (words : List Word) (line : Line) : Type 0 where

@@ -2,5 +2,4 @@ pub mod ActionsReadBack
 pub mod JoinedText
 pub mod LoopOverLines
 pub mod NumberWords
-pub mod PrintedLines
 pub mod ScriptReadBack

@@ -1,14 +1,13 @@
 -- The loop over the lines of a text keeps what the grammar says of the lines that are left.
-use Rattle.std.proofs.Common.{◌≡◌, ℕ, ◌+◌, ◌^◌, ◌<◌, ◌≤◌, true, false, min, List, [], ◌∷◌, ◌++◌, length, map, Result, Ok, Err, refl, sym, ap, subst, ◌∙◌, arith, inl, inr}
+use Rattle.std.proofs.Common.{◌≡◌, ℕ, ◌+◌, ◌^◌, ◌<◌, ◌≤◌, min, List, [], ◌∷◌, ◌++◌, length, map, Result, Ok, Err, refl, sym, ap, subst, ◌∙◌, arith, inl, inr}
 use Rattle.std.specs.List.{enumerate_from, sum_by}
 use Rattle.std.proofs.lemmas.Bool.{cases_Bool}
-use Rattle.std.proofs.lemmas.List.Sums.{sum_by-cons}
 use Rattle.cove_base.specs.declared.faults.Kind.{Kind}
 use Rattle.cove_base.specs.declared.faults.ScriptFault.{ScriptFault}
 use Rattle.cove_base.specs.Scripts.{ScriptValue}
-use Rattle.cove_base.specs.Text.{is_line_end, lines_from, text_lines, nonempty_piece}
-use Rattle.cove_text.proofs.Splits.{IsNextLine-from, no_lines_from}
-use Rattle.cove_model.specs.Fronts.{front_lines, front_size, is_end_line}
+use Rattle.cove_base.specs.Text.{is_line_end, lines_from, text_lines}
+use Rattle.std.proofs.lemmas.List.{length_push}
+use Rattle.cove_model.specs.Fronts.{front_lines, front_size}
 use Rattle.cove_model.specs.Grammar.{Reading, line_read, lines_read, then_read, fault_at, opening_reading}
 use Rattle.cove_script.specs.declared.faults.LineFault.{LineFault}
 use Rattle.cove_script.specs.declared.faults.LineFault.TheVariants.{Refused, Memory}
@@ -18,24 +17,13 @@ use Rattle.cove_model.proofs.GrammarLimits.{IsSound, Keeps, opening_is_sound, so
 
 -- ---- there are no more lines than bytes
 
-at_most_one : (piece : List ℕ) → length (nonempty_piece piece) ≤ 1
-at_most_one [] = omega arith
-at_most_one (b ∷ piece) = omega arith
-
-lines_few : (piece rest : List ℕ) → length (lines_from piece rest) ≤ length rest + 1
-lines_few piece [] = at_most_one piece
+lines_few : (piece rest : List ℕ) → length (lines_from piece rest) ≤ length piece + length rest
+lines_few [] [] = omega arith
+lines_few (b ∷ piece) [] = omega arith
 lines_few piece (b ∷ rest) =
     elim (cases_Bool (is_line_end b)) [
-      | inl ends ↦ rw ends (let few = lines_few [] rest in omega arith)
-      | inr goes_on ↦ rw goes_on (let few = lines_few (piece ++ b ∷ []) rest in omega arith)
-    ]
-
-pub text_lines_few : (text : List ℕ) → length (text_lines text) ≤ length text
-text_lines_few [] = omega arith
-text_lines_few (b ∷ rest) =
-    elim (cases_Bool (is_line_end b)) [
-      | inl ends ↦ rw ends (let few = text_lines_few rest in omega arith)
-      | inr goes_on ↦ rw goes_on (let few = lines_few (b ∷ []) rest in omega arith)
+      | inl ends ↦ rw ends (omega (arith, lines_few [] rest))
+      | inr goes_on ↦ rw goes_on (omega (arith, lines_few (piece ++ b ∷ []) rest, length_push piece b))
     ]
 
 -- ---- the loop to the last line
@@ -55,7 +43,7 @@ goes_first text = record {
   rest = text_lines text;
   left_are = refl;
   reads = refl;
-  few = omega (arith, text_lines_few text);
+  few = omega (arith, lines_few [] text);
   phases = omega arith;
   sound = opening_is_sound;
 }
@@ -71,18 +59,25 @@ pub record AtLine (size : ℕ) (total : Result ScriptValue ScriptFault) (R : Rea
   pub pages : R.script.pages < 2 ^ 20
 
 pub at_line : {size : ℕ} {total : Result ScriptValue ScriptFault} {R : Reading} {next number : ℕ} {line : List ℕ} {now left : List (ℕ × List ℕ)} → Goes size total R next now → now ≡ (number, line) ∷ left → AtLine size total R next number line left
-at_line {total = total} {R = R} {next = next} {number = number} {line = line} {left = left} g is =
-    let n = IsNextLine-from next g.rest number line left (sym g.left_are ∙ is) in
-    let P : List (List ℕ) → Type 0 = λ lines. lines_read R next lines ≡ total in
-    record {
-      at = n.number_is;
-      rest = n.rest;
-      left_are = n.others_are;
-      reads = subst P n.lines_are g.reads;
-      few = omega (arith, g.few, ap length n.lines_are);
-      phase = omega (arith, g.phases);
-      pages = sound_is_small R g.sound;
-    }
+at_line {size = size} {total = total} {R = R} {next = next} {number = number} {line = line} {left = left} g is =
+    go g.rest (sym g.left_are ∙ is) g.reads g.few
+  where
+    go : (rest : List (List ℕ)) → enumerate_from next rest ≡ (number, line) ∷ left → lines_read R next rest ≡ total → next + length rest ≤ size + 1
+        → AtLine size total R next number line left
+    go [] e reads few = absurd (cc)
+    go (first ∷ rest) e reads few =
+        let tail : left ≡ enumerate_from (next + 1) rest = cc in
+        let head : ◌≡◌ {A = ℕ × List ℕ} (next, first) (number, line) = cc in
+        let P : List ℕ → Type 0 = λ l. then_read next (line_read R l) (λ S. lines_read S (next + 1) rest) ≡ total in
+        record {
+          at = sym (ap (λ (p : ℕ × List ℕ). p.0) head);
+          rest = rest;
+          left_are = tail;
+          reads = subst P (ap (λ (p : ℕ × List ℕ). p.1) head) reads;
+          few = omega arith;
+          phase = omega (arith, g.phases);
+          pages = sound_is_small R g.sound;
+        }
 
 pub goes_on : {size : ℕ} {total : Result ScriptValue ScriptFault} {R S : Reading} {next number : ℕ} {line : List ℕ} {now left : List (ℕ × List ℕ)} → size ≤ 2 ^ 20 → Goes size total R next now → now ≡ (number, line) ∷ left → line_read R line ≡ Ok S → Goes size total S (number + 1) left
 goes_on {R = R} {S = S} {line = line} small g is e =
@@ -105,8 +100,11 @@ faulty g is e =
 -- after the last line
 pub at_the_end : {size : ℕ} {total : Result ScriptValue ScriptFault} {R : Reading} {next : ℕ} {now : List (ℕ × List ℕ)} → Goes size total R next now → now ≡ [] → lines_read R next [] ≡ total
 at_the_end {total = total} {R = R} {next = next} g is =
-    let P : List (List ℕ) → Type 0 = λ lines. lines_read R next lines ≡ total in
-    subst P (no_lines_from next g.rest (sym g.left_are ∙ is)) g.reads
+    go g.rest (sym g.left_are ∙ is) g.reads
+  where
+    go : (rest : List (List ℕ)) → enumerate_from next rest ≡ [] → lines_read R next rest ≡ total → lines_read R next [] ≡ total
+    go [] e reads = reads
+    go (line ∷ rest) e reads = absurd (cc)
 
 -- ---- the loop up to the line `end`
 
@@ -125,26 +123,8 @@ sized_first text = record {
   within = omega arith;
 }
 
-pub sized_on : (size total place number : ℕ) (line : List ℕ) (left : List (ℕ × List ℕ)) → IsSized size total place ((number, line) ∷ left) → is_end_line line ≡ false → IsSized size total (min (place + length line + 1) size) left
-sized_on size total place number line left s goes =
-    let rest : List (List ℕ) = front_lines (map (λ l. l.1) left) in
-    let sum : min (place + sum_by (λ l. length l + 1) (line ∷ rest)) size ≡ total = rw goes at s.sum in
-    record { sum = omega (arith, sum, sum_by-cons (λ l. length l + 1) line rest); within = omega arith }
-
-pub sized_end : (size total place number : ℕ) (line : List ℕ) (left : List (ℕ × List ℕ)) → IsSized size total place ((number, line) ∷ left) → is_end_line line ≡ true → min (place + length line + 1) size ≡ total
-sized_end size total place number line left s ends =
-    let sum : min (place + sum_by (λ l. length l + 1) (line ∷ [])) size ≡ total = rw ends at s.sum in
-    omega (arith, sum, sum_by-cons (λ l. length l + 1) line [])
-
-pub sized_none : (size total place : ℕ) → IsSized size total place [] → place ≡ total
-sized_none size total place s = omega (arith, s.sum, s.within)
-
 -- ---- the fault of a line
 
 pub is_fault : {X : Type 0} (fault : LineFault) (error : ParseError) (number : ℕ) (new : Reading) (judgement : Result Reading Kind) (total : Result X ScriptFault) → IsFaultAt number fault error → Judged {X = Unit {0}} (Err fault) new judgement → ((kind : Kind) → judgement ≡ Err kind → total ≡ Err (fault_at number kind)) → IsFaultOf error total
-is_fault (Refused kind) error number new judgement total at judged shows =
-    let P : ParseError → Type 0 = λ e. IsFaultOf e total in
-    subst P (sym at) (shows kind judged)
-is_fault Memory error number new judgement total at judged shows =
-    let P : ParseError → Type 0 = λ e. IsFaultOf e total in
-    subst P (sym at) tt
+is_fault (Refused kind) error number new judgement total at judged shows = rw at (shows kind judged)
+is_fault Memory error number new judgement total at judged shows = rw at tt

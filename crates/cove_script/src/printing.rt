@@ -179,7 +179,7 @@ fn put_turns(out: &mut Bytes, line: &mut LineBuf, turns: &[u32]) -> Result<(), N
 }
 
 /// The canonical text of a script.
-#[tactic(auto, using(crate::proofs::PrintedLines::lines_text_append), unfolding(cove_model::specs::ScriptText::script_text))]
+#[tactic(auto, unfolding(cove_model::specs::ScriptText::script_text))]
 pub fn print(alloc: Global, script: &Script) -> Result<Bytes, NoMemory>
     ensures { IfOk result (λ text. text ≡ script_text script.now) }
 {

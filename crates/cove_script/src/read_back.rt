@@ -1,11 +1,11 @@
 ghost use Rattle.std.specs.Prelude.{◌≡◌, ◌≤◌, true, length, All, Ok};
 ghost use Rattle.std.specs.List.{list_all};
-ghost use Rattle.cove_base.specs.CallWords.{arguments};
 ghost use Rattle.cove_model.specs.Grammar.{script_of};
 ghost use Rattle.cove_model.specs.ScriptText.{script_text};
 ghost use Rattle.cove_script.specs.MachineNumbers.{AreBytes, HasBytes, HasFittingNumbers, fits, line_numbers};
 
-use cove_base::{Fill, HostCall, Line, SCRIPT_LIMIT, Script, ScriptLine};
+use cove_base::{Fill, Line, SCRIPT_LIMIT, Script, ScriptLine};
+use cove_text::{call_fits, numbers_fit};
 
 /// What `print` writes is read back: the canonical text of a script is that script's, where it has at most
 /// `SCRIPT_LIMIT` bytes.
@@ -50,42 +50,3 @@ fn line_fits(line: &Line)
         Line::Store { addr, value } => numbers_fit(&[*addr, *value]),
     }
 }
-
-// So are those of a call.
-fn call_fits(call: &HostCall)
-    ensures { list_all fits (arguments call.now) ≡ true }
-{
-    match *call {
-        HostCall::Convert { base, n } | HostCall::Reclaim { base, n } => numbers_fit(&[base, n]),
-        HostCall::Create { root, state } => numbers_fit(&[root, state]),
-        HostCall::Region { t, gpa, len } => numbers_fit(&[t, gpa, len]),
-        HostCall::Tables { t, base, n } => numbers_fit(&[t, base, n]),
-        HostCall::Measured {
-            t,
-            src,
-            dst,
-            n,
-            gpa,
-        } => numbers_fit(&[t, src, dst, n, gpa]),
-        HostCall::Vcpu { t, v, state } => numbers_fit(&[t, v, state]),
-        HostCall::Finalize { t, pc, arg } => numbers_fit(&[t, pc, arg]),
-        HostCall::Zero { t, base, n, gpa } | HostCall::Shared { t, base, n, gpa } => {
-            numbers_fit(&[t, base, n, gpa])
-        }
-        HostCall::Run { t, v, fuel } => numbers_fit(&[t, v, fuel]),
-        HostCall::Invalidate { t, gpa, n }
-        | HostCall::Validate { t, gpa, n }
-        | HostCall::Remove { t, gpa, n } => numbers_fit(&[t, gpa, n]),
-        HostCall::TvmFence { t } | HostCall::Destroy { t } => numbers_fit(&[t]),
-        HostCall::Kick { hart } => numbers_fit(&[hart]),
-        HostCall::Bind { t, v, hart, file } => numbers_fit(&[t, v, hart, file]),
-        HostCall::Unbind { t, v } | HostCall::Unbound { t, v } => numbers_fit(&[t, v]),
-        HostCall::Inject { t, v, id } => numbers_fit(&[t, v, id]),
-        HostCall::GlobalFence | HostCall::LocalFence | HostCall::Info => {}
-    }
-}
-
-// Numbers of 64 bits are below 2 ^ 64.
-fn numbers_fit(numbers: &[u64])
-    ensures { list_all fits numbers.now ≡ true }
-{}

@@ -1,13 +1,10 @@
 -- Bytes as hex digits: how they are written, and that they are read back.
-use Rattle.std.proofs.Common.{◌≡◌, ◌≢◌, ℕ, suc, ◌+◌, ◌*◌, ◌/◌, ◌%◌, ◌<◌, ◌≤◌, true, false, not, ◌&&◌, List, [], ◌∷◌, ◌++◌, length, take, drop, get_or, Some, None, cond, refl, sym, ◌∙◌, ap, inl, inr, arith}
-use Rattle.std.specs.Result.{result_ok}
+use Rattle.std.proofs.Common.{◌≡◌, ◌≢◌, ℕ, suc, ◌+◌, ◌*◌, ◌/◌, ◌%◌, ◌<◌, ◌≤◌, true, false, ◌&&◌, List, [], ◌∷◌, ◌++◌, length, take, drop, get_or, Some, refl, sym, ◌∙◌, ap, arith}
 use Rattle.std.specs.List.{list_all}
 use Rattle.std.specs.Char.{digit_char, digit_value}
-use Rattle.std.proofs.lemmas.Bool.{cases_Bool, and_cases, and_from, and_left, and_parts, and_right, cond-true, eqb-false, ne_eqb}
-use Rattle.std.proofs.lemmas.Bool.Decides.{nat_tests}
+use Rattle.std.proofs.lemmas.Bool.{and_from, and_parts, eqb-false, ne_eqb}
 use Rattle.std.proofs.lemmas.List.{append_assoc, append-nil, drop_more, drop_all, take_more}
 use Rattle.cove_base.specs.Numbers.{bytes_of_hex, hex_of, hex_text, is_hex_digit, is_odd}
-use Rattle.hex.specs.Hex.{decode_pairs, hex_digit_value}
 use Rattle.cove_text.proofs.Numerals.{digit_value-digit_char, is_digit-digit_char}
 
 -- ---- what is written
@@ -23,54 +20,7 @@ hex_text-append (x ∷ xs) ys = ap (λ (ds : List ℕ). digit_char (x / 16) ∷ 
 pub hex_text-more : (bytes : List ℕ) (i : ℕ) (before : List ℕ) → i < length bytes
     → ((before ++ hex_text (take i bytes)) ++ (digit_char (get_or bytes i 0 / 16) ∷ [])) ++ (digit_char (get_or bytes i 0 % 16) ∷ [])
     ≡ before ++ hex_text (take (i + 1) bytes)
-hex_text-more bytes i before within =
-    let digits : List ℕ = digit_char (get_or bytes i 0 / 16) ∷ digit_char (get_or bytes i 0 % 16) ∷ [] in
-    append_assoc (before ++ hex_text (take i bytes)) (digit_char (get_or bytes i 0 / 16) ∷ []) (digit_char (get_or bytes i 0 % 16) ∷ [])
-    ∙ append_assoc before (hex_text (take i bytes)) digits
-    ∙ ap (λ (ds : List ℕ). before ++ ds) (sym (hex_text-append (take i bytes) (get_or bytes i 0 ∷ [])))
-    ∙ ap (λ (bs : List ℕ). before ++ hex_text bs) (sym (take_more bytes i 0 within))
-
--- ---- one byte
-
--- the two readers of a digit agree
-pub hex_digit_value-is : (c : ℕ) → hex_digit_value c ≡ cond (is_hex_digit c) (Some (digit_value c)) None
-hex_digit_value-is c = grind (arith, nat_tests)
-
--- a pair of digits is its byte, and another pair none
-pub decode_pairs-pair : (high low : ℕ)
-    → result_ok (decode_pairs 0 (high ∷ low ∷ []))
-    ≡ cond (is_hex_digit high && is_hex_digit low) (Some ((16 * digit_value high + digit_value low) ∷ [])) None
-unfolding decode_pairs
-decode_pairs-pair high low =
-    elim (cases_Bool (is_hex_digit high)) [
-      | inl high_good ↦
-          rw (hex_digit_value-is high, high_good)
-          (elim (cases_Bool (is_hex_digit low)) [
-            | inl low_good ↦
-                let same : digit_value high * 16 + digit_value low ≡ 16 * digit_value high + digit_value low = omega arith in
-                rw (hex_digit_value-is low, low_good) (ap (λ (n : ℕ). Some (n ∷ [])) same)
-            | inr low_bad ↦ rw (hex_digit_value-is low, low_bad) refl
-          ])
-      | inr high_bad ↦ rw (hex_digit_value-is high, high_bad) refl
-    ]
-
--- what the first item of the decoded bytes is
-pub byte_from_pair : (high low : ℕ) (bytes : List ℕ) → Some bytes ≡ result_ok (decode_pairs 0 (high ∷ low ∷ []))
-    → ((is_hex_digit high && is_hex_digit low) ≡ true) × (get_or bytes 0 0 ≡ 16 * digit_value high + digit_value low)
-byte_from_pair high low bytes e =
-    elim (cases_Bool (is_hex_digit high && is_hex_digit low)) [
-      | inl good ↦
-          let found : Some bytes ≡ Some ((16 * digit_value high + digit_value low) ∷ []) = e ∙ rw good at (decode_pairs-pair high low) in
-          let same : bytes ≡ (16 * digit_value high + digit_value low) ∷ [] = cc in
-          (good, ap (λ (bs : List ℕ). get_or bs 0 0) same)
-      | inr bad ↦ let none : Some bytes ≡ None = e ∙ rw bad at (decode_pairs-pair high low) in absurd (cc)
-    ]
-
-pub no_byte_from_pair : (high low : ℕ) → None ≡ result_ok (decode_pairs 0 (high ∷ low ∷ []))
-    → (is_hex_digit high && is_hex_digit low) ≡ true → ⊥
-no_byte_from_pair high low e good =
-    let found : None ≡ Some ((16 * digit_value high + digit_value low) ∷ []) = e ∙ rw good at (decode_pairs-pair high low) in
-    cc
+hex_text-more bytes i before within = rw (take_more bytes i 0 within, hex_text-append) (simp append_assoc)
 
 -- ---- what is read
 
@@ -82,10 +32,8 @@ pub record IsReadSoFar (word : List ℕ) (i : ℕ) (bytes : List ℕ) : Type 0 w
 next_pair : (word : List ℕ) (i : ℕ) → i < length word / 2
     → drop (2 * i) word ≡ get_or word (2 * i) 0 ∷ get_or word (2 * i + 1) 0 ∷ drop (2 * (i + 1)) word
 next_pair word i within =
-    let first = drop_more word (2 * i) 0 (omega arith) in
-    let second = drop_more word (2 * i + 1) 0 (omega arith) in
     let same : 2 * i + 1 + 1 ≡ 2 * (i + 1) = omega arith in
-    first ∙ ap (λ (ds : List ℕ). get_or word (2 * i) 0 ∷ ds) (second ∙ ap (λ (n : ℕ). get_or word (2 * i + 1) 0 ∷ drop n word) same)
+    rw (drop_more word (2 * i) 0 (omega arith), drop_more word (2 * i + 1) 0 (omega arith), same) refl
 
 pub IsReadSoFar-more : (word : List ℕ) (i : ℕ) (bytes : List ℕ) (byte : ℕ) → i < length word / 2
     → IsReadSoFar word i bytes
@@ -101,25 +49,9 @@ IsReadSoFar-more word i bytes byte within so_far good is =
           ∙ ap (λ (ds : List ℕ). bytes ++ bytes_of_hex ds) (sym next)
           ∙ so_far.same;
       digits =
-          let all : list_all is_hex_digit (drop (2 * i) word)
-          ≡ (is_hex_digit (get_or word (2 * i) 0) && (is_hex_digit (get_or word (2 * i + 1) 0) && list_all is_hex_digit (drop (2 * (i + 1)) word))) =
-          ap (list_all is_hex_digit) next in
-          sym (rw (digits.0, digits.1) at all) ∙ so_far.digits;
+          let kept : list_all is_hex_digit (drop (2 * i) word) ≡ list_all is_hex_digit (drop (2 * (i + 1)) word) = rw (next, digits.0, digits.1) refl in
+          sym kept ∙ so_far.digits;
     }
-
-pub list_all-bad : (word : List ℕ) (i : ℕ) (bytes : List ℕ) → i < length word / 2 → IsReadSoFar word i bytes
-    → (is_hex_digit (get_or word (2 * i) 0) && is_hex_digit (get_or word (2 * i + 1) 0)) ≡ false
-    → list_all is_hex_digit word ≡ false
-list_all-bad word i bytes within so_far bad =
-    let rest = list_all is_hex_digit (drop (2 * (i + 1)) word) in
-    let all : list_all is_hex_digit (drop (2 * i) word)
-    ≡ (is_hex_digit (get_or word (2 * i) 0) && (is_hex_digit (get_or word (2 * i + 1) 0) && rest)) =
-    ap (list_all is_hex_digit) (next_pair word i within) in
-    sym so_far.digits ∙ all
-    ∙ elim (and_cases (is_hex_digit (get_or word (2 * i) 0)) (is_hex_digit (get_or word (2 * i + 1) 0)) bad) [
-      | inl high ↦ and_left _ _ high
-      | inr low ↦ and_right _ _ (and_left _ rest low)
-    ]
 
 pub hex_of-read : (word : List ℕ) (i : ℕ) (bytes : List ℕ) → is_odd word ≡ false → length word / 2 ≤ i
     → IsReadSoFar word i bytes → hex_of word ≡ Some bytes
@@ -128,7 +60,7 @@ hex_of-read word i bytes even past so_far =
     let none : drop (2 * i) word ≡ [] = drop_all (2 * i) word (omega (arith, even_length)) in
     let all : list_all is_hex_digit word ≡ true = sym so_far.digits ∙ ap (list_all is_hex_digit) none in
     let same : bytes ≡ bytes_of_hex word = sym (append-nil bytes) ∙ sym (ap (λ (ds : List ℕ). bytes ++ bytes_of_hex ds) none) ∙ so_far.same in
-    cond-true (not (is_odd word) && list_all is_hex_digit word) (Some (bytes_of_hex word)) None (rw (even, all) refl) ∙ ap Some (sym same)
+    rw (even, all) (ap Some (sym same))
 
 -- ---- what was written is read back
 
@@ -150,6 +82,4 @@ bytes_of_hex-hex_text (byte ∷ bytes) small =
 pub hex_of-hex_text : (bytes : List ℕ) → ((i : ℕ) → get_or bytes i 0 < 256) → hex_of (hex_text bytes) ≡ Some bytes
 hex_of-hex_text bytes small =
     let even : is_odd (hex_text bytes) ≡ false = ne_eqb (length (hex_text bytes) % 2) 1 (λ e. omega (arith, e, length-hex_text bytes)) in
-    let all = list_all-hex_text bytes small in
-    cond-true (not (is_odd (hex_text bytes)) && list_all is_hex_digit (hex_text bytes)) (Some (bytes_of_hex (hex_text bytes))) None (rw (even, all) refl)
-    ∙ ap Some (bytes_of_hex-hex_text bytes small)
+    rw (even, list_all-hex_text bytes small, bytes_of_hex-hex_text bytes small) refl

@@ -2,22 +2,17 @@
 use Rattle.std.proofs.Common.{◌≡◌, ℕ, suc, ◌<◌, ◌≤◌, true, List, [], ◌∷◌, length, map, get_or, refl, arith}
 use Rattle.std.specs.List.{list_all}
 use Rattle.std.specs.Char.{digit_char, is_digit}
-use Rattle.std.proofs.lemmas.Bool.{and_parts, and_from, le-leb}
+use Rattle.std.proofs.lemmas.Bool.{and_from, le-leb}
 use Rattle.std.proofs.lemmas.Bool.Decides.{nat_tests}
 use Rattle.std.proofs.lemmas.List.{length-map}
 use Rattle.cove_base.specs.Numbers.{hex_text, natural_text, number_text, shortest_digits}
 use Rattle.cove_base.proofs.JoinedWords.{is_word, is_word_byte}
+use Rattle.cove_base.proofs.ScriptLimits.{all_weaker}
 use Rattle.cove_text.proofs.HexDigits.{length-hex_text, list_all-hex_text}
 use Rattle.cove_text.proofs.Numerals.{length-shortest_digits, list_all-shortest_digits}
 
-is_word_byte-digit : (base digit : ℕ) → base ≤ 16 → is_digit digit base ≡ true → is_word_byte digit ≡ true
-is_word_byte-digit base digit small e = grind (arith, nat_tests)
-
 list_all-digits : (base : ℕ) (digits : List ℕ) → base ≤ 16 → list_all (λ digit. is_digit digit base) digits ≡ true → list_all is_word_byte digits ≡ true
-list_all-digits base [] small all = refl
-list_all-digits base (digit ∷ digits) small all =
-    let parts = and_parts (is_digit digit base) (list_all (λ digit. is_digit digit base) digits) all in
-    and_from _ _ (is_word_byte-digit base digit small parts.0) (list_all-digits base digits small parts.1)
+list_all-digits base digits small all = all_weaker (λ digit. is_digit digit base) is_word_byte (λ digit e. grind (arith, nat_tests)) digits all
 
 pub is_word-number_text : (n : ℕ) → is_word (number_text n) ≡ true
 is_word-number_text n =

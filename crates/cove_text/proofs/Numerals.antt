@@ -1,14 +1,15 @@
 -- The digits of a number: how they are written, and that they are read back.
-use Rattle.std.proofs.Common.{◌≡◌, ℕ, zero, suc, ◌+◌, ◌*◌, ◌/◌, ◌%◌, ◌^◌, ◌<◌, ◌≤◌, Bool, true, false, ◌&&◌, List, [], ◌∷◌, ◌++◌, length, map, take, drop, get_or, Some, None, nat_lt, nat_le, nat_eq, codes, refl, sym, ◌∙◌, ap, inl, inr, arith}
+use Rattle.std.proofs.Common.{◌≡◌, ℕ, zero, suc, ◌+◌, ◌*◌, ◌/◌, ◌%◌, ◌^◌, ◌<◌, ◌≤◌, true, false, ◌&&◌, List, [], ◌∷◌, ◌++◌, length, map, take, get_or, Some, None, nat_le, nat_lt, nat_eq, codes, refl, sym, ◌∙◌, ap, inl, inr, arith}
 use Rattle.std.specs.List.{list_all, starts_with}
 use Rattle.std.specs.Char.{digit_char, digit_value, is_digit}
 use Rattle.std.specs.Str.Parse.{digits_value}
 use Rattle.std.proofs.Math.Nat.{div-lt_self, mod-eq_of_lt, pow-suc, pow-zero, one-mul}
-use Rattle.std.proofs.lemmas.Bool.{cond-true, cond-false, cases_lt, ltb-true, lt-ltb, le-ltb, le-leb, ne_eqb, and_parts, and_from, and_left, and_right, false_from_ne_true}
+use Rattle.std.proofs.lemmas.Bool.{cond-false, cases_lt, ltb-true, lt-ltb, le-ltb, le-leb, and_parts, and_from, and_right, false_from_ne_true}
 use Rattle.std.proofs.lemmas.Int.Digits.{digits_value_push, digits_value_more}
 use Rattle.std.proofs.lemmas.List.{map_push, length_push, length-map, append_assoc, take_all, take_more}
 use Rattle.std.proofs.lemmas.List.Folds.{list_all-append}
-use Rattle.std.proofs.lemmas.List.Recursion.{and_at}
+use Rattle.std.proofs.lemmas.List.Sums.{AllPass-from_list_all}
+use Rattle.std.proofs.lemmas.Bool.Decides.{nat_tests}
 use Rattle.std.proofs.lemmas.Nat.{div-add-mod', div_below, mod_below}
 use Rattle.std.proofs.lemmas.Str.Parse.{digits_value-take-le}
 use Rattle.cove_base.specs.Numbers.{digits_within, shortest_digits, number_text, natural_text, is_numeral, value_of_numeral, number_of}
@@ -27,10 +28,8 @@ digits_within-more divisions base n large = rw (le-ltb n base large, digits_with
 
 -- more divisions than are enough change nothing
 digits_within-enough : (base f g n : ℕ) → 2 ≤ base → n ≤ f → n ≤ g → digits_within f base n ≡ digits_within g base n
-digits_within-enough base zero g n two p q =
-    digits_within-last zero base n (omega arith) ∙ sym (digits_within-last g base n (omega arith))
-digits_within-enough base (suc f) zero n two p q =
-    digits_within-last (suc f) base n (omega arith) ∙ sym (digits_within-last zero base n (omega arith))
+digits_within-enough base zero g n two p q = sym (digits_within-last g base n (omega arith))
+digits_within-enough base (suc f) zero n two p q = digits_within-last (suc f) base n (omega arith)
 digits_within-enough base (suc f) (suc g) n two p q =
     elim (cases_lt n base) [
       | inl last ↦ digits_within-last (suc f) base n last ∙ sym (digits_within-last (suc g) base n last)
@@ -53,6 +52,22 @@ shortest_digits-more base (suc n) two large =
     digits_within-more n base (suc n) large
     ∙ ap (λ (ds : List ℕ). ds ++ (suc n % base ∷ [])) (digits_within-enough base n (suc n / base) (suc n / base) two (omega arith) (omega arith))
 
+-- what holds of one digit, and of one more digit behind those of which it holds, holds of the digits of each number
+module _ (base : ℕ) (two : 2 ≤ base) (P : ℕ → List ℕ → Type 0) (last : (n : ℕ) → n < base → P n (n ∷ []))
+    (more : (n : ℕ) (ds : List ℕ) → base ≤ n → P (n / base) ds → P n (ds ++ n % base ∷ [])) where
+  by_most : (most n : ℕ) → n ≤ most → P n (shortest_digits base n)
+  by_most zero n few = rw (shortest_digits-last base n (omega arith)) (last n (omega arith))
+  by_most (suc most) n few =
+      elim (cases_lt n base) [
+        | inl below ↦ rw (shortest_digits-last base n below) (last n below)
+        | inr large ↦
+            let less : n / base < n = div-lt_self {n = n} {k = base} (omega arith) (omega arith) in
+            rw (shortest_digits-more base n two large) (more n _ large (by_most most (n / base) (omega arith)))
+      ]
+
+  by_digits : (n : ℕ) → P n (shortest_digits base n)
+  by_digits n = by_most n n (omega arith)
+
 -- ---- the digit of a value reads as that value
 
 pub digit_value-digit_char : (d : ℕ) → d < 16 → digit_value (digit_char d) ≡ d
@@ -63,70 +78,43 @@ is_digit-digit_char base d below small = rw (digit_value-digit_char d (omega ari
 
 -- ---- what is written
 
-digits_value-written : (divisions base n : ℕ) → 2 ≤ base → base ≤ 16 → n ≤ divisions
-    → digits_value base (map digit_char (digits_within divisions base n)) ≡ n
-digits_value-written zero base n two small enough =
-    let below : n < base = omega arith in
-    rw (digit_value-digit_char n (omega arith)) (omega arith)
-digits_value-written (suc divisions) base n two small enough =
-    elim (cases_lt n base) [
-      | inl below ↦ rw (digits_within-last (suc divisions) base n below, digit_value-digit_char n (omega arith)) (omega arith)
-      | inr large ↦
-          let less : n / base < n = div-lt_self {n = n} {k = base} (omega arith) (omega arith) in
-          let below : n % base < base = mod_below n base (omega arith) in
-          rw (digits_within-more divisions base n large, map_push, digits_value_push)
-          (rw (digits_value-written divisions base (n / base) two small (omega arith), digit_value-digit_char (n % base) (omega arith))
-          (div-add-mod' n base))
-    ]
+digits_value-written : (base n : ℕ) → 2 ≤ base → base ≤ 16 → digits_value base (map digit_char (shortest_digits base n)) ≡ n
+digits_value-written base n two small =
+    by_digits base two (λ m ds. digits_value base (map digit_char ds) ≡ m)
+    (λ m below. rw (digit_value-digit_char m (omega arith)) (omega arith))
+    (λ m ds large is.
+    let below : m % base < base = mod_below m base (omega arith) in
+    rw (map_push, digits_value_push, is, digit_value-digit_char (m % base) (omega arith)) (div-add-mod' m base)) n
 
 one_digit : (base n : ℕ) → n < base → base ≤ 16 → list_all (λ digit. is_digit digit base) (digit_char n ∷ []) ≡ true
 one_digit base n below small = and_from _ _ (is_digit-digit_char base n below small) refl
 
-list_all-written : (divisions base n : ℕ) → 2 ≤ base → base ≤ 16 → n ≤ divisions
-    → list_all (λ digit. is_digit digit base) (map digit_char (digits_within divisions base n)) ≡ true
-list_all-written zero base n two small enough =
-    one_digit base n (omega arith) small
-list_all-written (suc divisions) base n two small enough =
-    elim (cases_lt n base) [
-      | inl below ↦ rw (digits_within-last (suc divisions) base n below) (one_digit base n below small)
-      | inr large ↦
-          let less : n / base < n = div-lt_self {n = n} {k = base} (omega arith) (omega arith) in
-          let below : n % base < base = mod_below n base (omega arith) in
-          rw (digits_within-more divisions base n large, map_push, list_all-append)
-          (and_from _ _ (list_all-written divisions base (n / base) two small (omega arith)) (one_digit base (n % base) below small))
-    ]
-
 -- and each of them is a digit
 pub list_all-shortest_digits : (base n : ℕ) → 2 ≤ base → base ≤ 16
     → list_all (λ digit. is_digit digit base) (map digit_char (shortest_digits base n)) ≡ true
-list_all-shortest_digits base n two small = list_all-written n base n two small (omega arith)
+list_all-shortest_digits base n two small =
+    by_digits base two (λ m ds. list_all (λ digit. is_digit digit base) (map digit_char ds) ≡ true) (λ m below. one_digit base m below small)
+    (λ m ds large all. rw (map_push, list_all-append) (and_from _ _ all (one_digit base (m % base) (mod_below m base (omega arith)) small))) n
 
-length-digits_within : (divisions base n k : ℕ) → 2 ≤ base → n < base ^ suc k
-    → length (digits_within divisions base n) ≤ suc k
-length-digits_within zero base n k two small = omega arith
-length-digits_within (suc divisions) base n zero two small =
-    let below : n < base = rw (pow-suc base 0, pow-zero base, one-mul base) at small in
-    rw (digits_within-last (suc divisions) base n below) (omega arith)
-length-digits_within (suc divisions) base n (suc k) two small =
-    elim (cases_lt n base) [
-      | inl below ↦ rw (digits_within-last (suc divisions) base n below) (omega arith)
-      | inr large ↦
-          let product : n < base ^ suc k * base = rw (pow-suc base (suc k)) at small in
-          let rest = length-digits_within divisions base (n / base) k two (div_below n base (base ^ suc k) (omega arith) product) in
-          rw (digits_within-more divisions base n large, length_push) (omega arith)
-    ]
+length_more : (base n k : ℕ) (ds : List ℕ) → 2 ≤ base → base ≤ n → ((j : ℕ) → n / base < base ^ suc j → length ds ≤ suc j) → n < base ^ suc k
+    → length (ds ++ n % base ∷ []) ≤ suc k
+length_more base n zero ds two large short small =
+    absurd (let below : n < base = rw (pow-suc base 0, pow-zero base, one-mul base) at small in omega arith)
+length_more base n (suc k) ds two large short small =
+    let product : n < base ^ suc k * base = rw (pow-suc base (suc k)) at small in
+    let rest = short k (div_below n base (base ^ suc k) (omega arith) product) in
+    rw length_push (omega arith)
 
 -- a number below a power of the base has no more digits than the power's exponent
 pub length-shortest_digits-le : (base n k : ℕ) → 2 ≤ base → n < base ^ suc k → length (shortest_digits base n) ≤ suc k
-length-shortest_digits-le base n k two small = length-digits_within n base n k two small
+length-shortest_digits-le base n k two small =
+    by_digits base two (λ m ds. (j : ℕ) → m < base ^ suc j → length ds ≤ suc j) (λ m below j few. omega arith)
+    (λ m ds large short j few. length_more base m j ds two large short few) n k small
 
 -- and has a digit
 pub length-shortest_digits : (base n : ℕ) → 2 ≤ base → 0 < length (shortest_digits base n)
 length-shortest_digits base n two =
-    elim (cases_lt n base) [
-      | inl below ↦ rw (shortest_digits-last base n below) (omega arith)
-      | inr large ↦ rw (shortest_digits-more base n two large, length_push) (omega arith)
-    ]
+    by_digits base two (λ m ds. 0 < length ds) (λ m below. omega arith) (λ m ds large some. rw length_push (omega arith)) n
 
 pub length-shortest_digits-more : (base n : ℕ) → 2 ≤ base → base ≤ n
     → length (shortest_digits base n) ≡ length (shortest_digits base (n / base)) + 1
@@ -149,16 +137,7 @@ pub value_of_numeral-some : (base most : ℕ) (digits : List ℕ) → 0 < length
     → list_all (λ digit. is_digit digit base) digits ≡ true → digits_value base digits < 2 ^ 64
     → value_of_numeral base most digits ≡ Some (digits_value base digits)
 value_of_numeral-some base most digits some few all small =
-    cond-true (is_numeral base most digits) (Some (digits_value base digits)) None
-    (and_from (nat_le 1 (length digits) && nat_le (length digits) most && list_all (λ digit. is_digit digit base) digits) _
-    (and_from (nat_le 1 (length digits) && nat_le (length digits) most) _
-    (and_from (nat_le 1 (length digits)) _ (le-leb 1 (length digits) some) (le-leb (length digits) most few)) all)
-    (lt-ltb (digits_value base digits) (2 ^ 64) small))
-
-last_two : (a b c d : Bool) → (a && b && c && d) ≡ true → (c ≡ true) × (d ≡ true)
-last_two a b c d e =
-    let outer = and_parts (a && b && c) d e in
-    ((and_parts (a && b) c outer.0).1, outer.1)
+    rw (le-leb 1 (length digits) some, le-leb (length digits) most few, all, lt-ltb (digits_value base digits) (2 ^ 64) small) refl
 
 -- a word with a digit that is none, or a front that is too large, is no numeral
 pub value_of_numeral-bad : (base most : ℕ) (digits : List ℕ) (i value : ℕ) → 1 ≤ base → i < length digits
@@ -168,9 +147,9 @@ pub value_of_numeral-bad : (base most : ℕ) (digits : List ℕ) (i value : ℕ)
 value_of_numeral-bad base most digits i value positive within same bad =
     cond-false (is_numeral base most digits) (Some (digits_value base digits)) None
     (false_from_ne_true (is_numeral base most digits) (λ e.
-    let parts = last_two (nat_le 1 (length digits)) (nat_le (length digits) most) (list_all (λ digit. is_digit digit base) digits) (nat_lt (digits_value base digits) (2 ^ 64)) e in
-    let digit = and_at (list_all (λ digit. is_digit digit base)) (λ digit. is_digit digit base) refl (λ _ _. refl) digits i 0 within parts.0 in
-    let below : digit_value (get_or digits i 0) < base = ltb-true (digit_value (get_or digits i 0)) base digit in
+    let parts = and_parts _ (nat_lt (digits_value base digits) (2 ^ 64)) e in
+    let all : list_all (λ d. is_digit d base) digits ≡ true = (and_parts (nat_le 1 (length digits) && nat_le (length digits) most) _ parts.0).1 in
+    let below : digit_value (get_or digits i 0) < base = ltb-true _ base (AllPass-from_list_all (λ d. is_digit d base) digits all i 0 within) in
     let whole : digits_value base digits < 2 ^ 64 = ltb-true (digits_value base digits) (2 ^ 64) parts.1 in
     let front = digits_value-take-le base digits (i + 1) positive in
     let next : digits_value base (take (i + 1) digits) ≡ value * base + digit_value (get_or digits i 0) =
@@ -209,12 +188,11 @@ value_of_numeral-end base most digits i value some few past so_far =
 written_is_read : (base most n k : ℕ) → 2 ≤ base → base ≤ 16 → n < base ^ suc k → suc k ≤ most → n < 2 ^ 64
     → value_of_numeral base most (map digit_char (shortest_digits base n)) ≡ Some n
 written_is_read base most n k two small fits few bound =
-    let same : digits_value base (map digit_char (shortest_digits base n)) ≡ n = digits_value-written n base n two small (omega arith) in
+    let same = digits_value-written base n two small in
     let len = length-map (shortest_digits base n) digit_char in
-    let some = length-shortest_digits base n two in
-    let short = length-shortest_digits-le base n k two fits in
-    value_of_numeral-some base most (map digit_char (shortest_digits base n)) (omega (arith, len, some)) (omega (arith, len, short))
-    (list_all-written n base n two small (omega arith)) (rw same bound)
+    value_of_numeral-some base most (map digit_char (shortest_digits base n))
+    (omega (arith, len, length-shortest_digits base n two)) (omega (arith, len, length-shortest_digits-le base n k two fits))
+    (list_all-shortest_digits base n two small) (rw same bound)
     ∙ ap Some same
 
 pub number_of-number_text : (n : ℕ) → n < 2 ^ 64 → number_of (number_text n) ≡ Some n
@@ -224,30 +202,20 @@ number_of-number_text n bound = written_is_read 16 16 n 15 (omega arith) (omega 
 no_prefix : (digits : List ℕ) → list_all (λ digit. is_digit digit 10) digits ≡ true → starts_with nat_eq digits (codes "0x") ≡ false
 no_prefix [] all = refl
 no_prefix (a ∷ []) all = and_right (nat_eq 48 a) false refl
-no_prefix (a ∷ b ∷ digits) all =
-    let second = (and_parts (is_digit b 10) _ (and_parts (is_digit a 10) (is_digit b 10 && list_all (λ digit. is_digit digit 10) digits) all).1).0 in
-    let other : 120 ≡ b → ⊥ = λ (e : 120 ≡ b). let same : is_digit 120 10 ≡ is_digit b 10 = ap (λ (c : ℕ). is_digit c 10) e in cc in
-    and_right (nat_eq 48 a) _ (and_left (nat_eq 120 b) true (ne_eqb 120 b other))
+no_prefix (a ∷ b ∷ digits) all = grind (arith, nat_tests)
 
 pub number_of-natural_text : (n : ℕ) → n < 2 ^ 64 → number_of (natural_text n) ≡ Some n
 number_of-natural_text n bound =
-    cond-false (starts_with nat_eq (natural_text n) (codes "0x")) (value_of_numeral 16 16 (drop 2 (natural_text n))) (value_of_numeral 10 20 (natural_text n))
-    (no_prefix (natural_text n) (list_all-written n 10 n (omega arith) (omega arith) (omega arith)))
-    ∙ written_is_read 10 20 n 19 (omega arith) (omega arith) (omega arith) (omega arith) bound
+    rw (no_prefix (natural_text n) (list_all-shortest_digits 10 n (omega arith) (omega arith)))
+    (written_is_read 10 20 n 19 (omega arith) (omega arith) (omega arith) (omega arith) bound)
 
 -- ---- room
 
 pub length-number_text : (n : ℕ) → n < 2 ^ 64 → length (number_text n) ≤ 18
-length-number_text n bound =
-    let len = length-map (shortest_digits 16 n) digit_char in
-    let short = length-shortest_digits-le 16 n 15 (omega arith) bound in
-    omega (arith, len, short)
+length-number_text n bound = omega (arith, length-map (shortest_digits 16 n) digit_char, length-shortest_digits-le 16 n 15 (omega arith) bound)
 
 pub length-natural_text : (n : ℕ) → n < 2 ^ 64 → length (natural_text n) ≤ 20
-length-natural_text n bound =
-    let len = length-map (shortest_digits 10 n) digit_char in
-    let short = length-shortest_digits-le 10 n 19 (omega arith) (omega arith) in
-    omega (arith, len, short)
+length-natural_text n bound = omega (arith, length-map (shortest_digits 10 n) digit_char, length-shortest_digits-le 10 n 19 (omega arith) (omega arith))
 
 pub length-hex_digits : (n : ℕ) → n < 2 ^ 64 → length (shortest_digits 16 n) ≤ 16
 length-hex_digits n bound = length-shortest_digits-le 16 n 15 (omega arith) bound

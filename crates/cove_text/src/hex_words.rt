@@ -6,7 +6,6 @@ ghost use Rattle.cove_base.specs.Numbers.{hex_of, hex_text, is_hex_digit, is_odd
 use crate::line_buf::{LINE_LIMIT, LineBuf};
 use crate::numbers::digit_char;
 use cove_base::Bytes;
-use hex::FromHex;
 use std::alloc::Global;
 use thiserror::Error;
 
@@ -42,8 +41,9 @@ pub fn read_hex(alloc: Global, word: &[u8]) -> Result<Bytes, HexError>
 fn read_byte(high: u8, low: u8) -> Option<u8>
     ensures { SomeIff result (IsTrue (is_hex_digit high && is_hex_digit low)) (16 * digit_value high + digit_value low) }
 {
-    let [byte] = <[u8; 1]>::from_hex([high, low]).ok()?;
-    Some(byte)
+    let high = char::from(high).to_digit(16)?;
+    let low = char::from(low).to_digit(16)?;
+    Some((16 * high + low) as u8)
 }
 
 /// Appends two lower-case hex digits for each byte.

@@ -1,13 +1,14 @@
 use Rattle.std.proofs.Common.{◌<◌, ◌≤◌, ℕ, List, ◌+◌, ◌++◌, length, take, drop, ap, sym, subst, ◌∙◌, arith, take_all}
 use Rattle.std.specs.Prelude.{flat_map}
 use Rattle.std.specs.Io.KnownBytes.{Appends}
+use Rattle.std.proofs.KnownBytes.{Appends-trans}
 use Rattle.std.proofs.lemmas.Option.{get_or_from_slice_get, slice_get_within}
 use Rattle.std.proofs.lemmas.Result.{on_err_weaker}
 use Rattle.cove_base.specs.declared.events.Entry.{Entry}
 use Rattle.cove_io.specs.Ends.{AppendsFront}
 use Rattle.cove_journal.specs.Lines.{last_line_of}
 use Rattle.cove_model.specs.Reports.{ended_line, entry_line}
-use Rattle.cove_run.proofs.PrintLemmas.{appends_both, appends_front, last_front, on_err, pieces_at, pieces_more}
+use Rattle.cove_run.proofs.PrintLemmas.{appends_front, last_front, on_err, pieces_at, pieces_more}
 use Rattle.cove_run.proofs.printing.print_journal.Goals as goal
 
 pub loop-i-preserved : goal.loop-i-preserved
@@ -22,7 +23,7 @@ loop-i-preserved g c =
       clean = cc (c.loop-i.invariant.clean, c.in_ok-write_all.ensures.clean);
       taken =
           subst (Appends (g.K.Sink.taken c.args.sink.now) (g.K.Sink.taken c.write_all.new.sink)) (ap (λ line. flat_map (λ entry. ended_line (entry_line entry)) (take i history) ++ line) piece ∙ sym (pieces_more (λ entry. ended_line (entry_line entry)) history i entry below))
-          (appends_both _ (g.K.Sink.taken c.loop-i.sink) _ (flat_map (λ entry. ended_line (entry_line entry)) (take i history)) c.as_slice.result.now c.loop-i.invariant.taken c.in_ok-write_all.ensures.ok);
+          (Appends-trans _ (g.K.Sink.taken c.loop-i.sink) _ (flat_map (λ entry. ended_line (entry_line entry)) (take i history)) c.as_slice.result.now c.loop-i.invariant.taken c.in_ok-write_all.ensures.ok);
     }
 
 pub returns-in_err-write_all-clause-front : goal.returns-in_err-write_all-clause-front

@@ -1,4 +1,4 @@
-use Rattle.std.proofs.Common.{◌≡◌, ◌+◌, ◌<◌, ◌≤◌, ℕ, min, inl, inr, arith, below_more, ap, ◌∙◌, get_or}
+use Rattle.std.proofs.Common.{◌≡◌, ◌+◌, ◌<◌, ◌≤◌, ℕ, min, inl, inr, arith, rules, below_more, ap, ◌∙◌, get_or}
 use Rattle.std.proofs.lemmas.Bool.{cases_lt}
 use Rattle.cove_fence.specs.Fences.{answered}
 use Rattle.cove_fence.proofs.epochs.Epochs.floor.Goals as goal
@@ -12,9 +12,7 @@ least_more f k least more is below =
 one_more : (f : ℕ → ℕ) (k least more : ℕ) → more ≡ min least (f k) → (j : ℕ) × (j < k) × (least ≡ f j) → (j : ℕ) × (j < k + 1) × (more ≡ f j)
 one_more f k least more is one =
     elim (cases_lt least (f k)) [
-      | inl less ↦
-          let at : least ≡ f one.0 = one.2 in
-          (one.0, omega arith, omega arith)
+      | inl less ↦ (one.0, omega (arith, one.1), omega (arith, one.2))
       | inr over ↦ (k, omega arith, omega arith)
     ]
 
@@ -30,9 +28,5 @@ loop-k-preserved g c =
     record {
       least = least_more (answered places words) k _ _ is c.loop-k.invariant.least;
       answered = one_more (answered places words) k _ _ is c.loop-k.invariant.answered;
-      unchanged = record {
-        words = c.get.ensures.words ∙ c.loop-k.invariant.unchanged.words;
-        clean = c.get.ensures.clean ∙ c.loop-k.invariant.unchanged.clean;
-        guard = c.get.ensures.guard ∙ c.loop-k.invariant.unchanged.guard;
-      };
+      unchanged = search rules;
     }
