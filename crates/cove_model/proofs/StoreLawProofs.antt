@@ -1,7 +1,5 @@
 -- A lawful store, place by place.
-use Rattle.std.proofs.Common.{◌≡◌, ◌≢◌, ℕ, ◌+◌, ◌<◌, ◌≤◌, ◌⊎◌, List, length, get_or, set, inl, inr, arith, get_or-set_other}
-use Rattle.std.proofs.lemmas.Bool.{cases_eq}
-use Rattle.std.proofs.lemmas.Grind.{get_or-set_at}
+use Rattle.std.proofs.Common.{◌≡◌, ◌≢◌, ℕ, ◌+◌, ◌<◌, ◌≤◌, ◌⊎◌, List, get_or, inl, inr, arith, get_or-set_other}
 use Rattle.cove_base.specs.PageWords.{host, converting, given, IsHostWord}
 use Rattle.cove_base.specs.Places.{epoch_word, answered_word}
 use Rattle.cove_base.specs.declared.limits.TheConstants.{ENTRY_LIMIT}
@@ -9,6 +7,7 @@ use Rattle.cove_base.specs.declared.numbers.Role.{Role}
 use Rattle.cove_base.specs.declared.numbers.Role.TheVariants.{Data}
 use Rattle.cove_model.specs.WordsStand.{FreeStands, epoch_in, answered_in}
 use Rattle.cove_model.specs.LawfulStores.{Tables, IsLawful, Counts, Converts, Frees, Gives, TakesBack, Removes, Answers, Begins}
+use Rattle.cove_model.proofs.StandLemmas.{set_cases}
 use Rattle.cove_model.specs.StoreLaw.{IsUsableWord, StoresKeepUsable, StoresKeepHost, StoresKeepAnswers, StoresKeepEpoch}
 
 -- the word of a page that is none of the host's, and that no hart of the board may use
@@ -44,13 +43,6 @@ place_of (TakesBack page tvm role is at was new left) = inl (omega arith)
 place_of (Removes page tvm is at was new none) = inl (omega arith)
 place_of (Answers is at new) = inr (inl (at, is, new))
 place_of (Begins at room new all) = inr (inr (at, room, new))
-
--- a word after a store is the one that was stored, or it stays
-set_cases : (words : List ℕ) (place word other : ℕ) → place < length words → ((other ≡ place) × (get_or (set words place word) other 0 ≡ word)) ⊎ ((other ≢ place) × (get_or (set words place word) other 0 ≡ get_or words other 0))
-set_cases words place word other inside = elim (cases_eq other place) [
-  | inl is ↦ inl (is, get_or-set_at words place other word 0 is inside)
-  | inr off ↦ inr (off, get_or-set_other words place other word 0 off)
-]
 
 pub stores_keep_answers : StoresKeepAnswers
 stores_keep_answers pages harts tables hart old words place word size within lawful k on =
