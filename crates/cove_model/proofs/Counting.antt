@@ -23,10 +23,7 @@ ended_sum script H = sum_below (λ h. ended_by (after script H) h) script.harts
 zero_sum : (f : ℕ → ℕ) (n : ℕ) → ((k : ℕ) → f k ≡ 0) → sum_below f n ≡ 0
 unfolding sum_below
 zero_sum f zero e = refl
-zero_sum f (suc n) e =
-    let here = e n in
-    let rest = zero_sum f n e in
-    omega arith
+zero_sum f (suc n) e = omega (arith, e n, zero_sum f n e)
 
 -- the entries of a legal history are the ended lines of all harts
 counted : (script : ScriptValue) → Limits script → (H : List Entry) → Legal script H → ended_sum script H ≡ length H
@@ -59,16 +56,9 @@ one_line x ls = ap length (cond-true (eqb x.hart.0 x.hart.0) (x ∷ filter (λ l
 
 lines_at_most : (ls : List ScriptLine) (n : ℕ) → sum_below (lines_below ls) n ≤ length ls
 lines_at_most [] n = let z = zero_sum (lines_below []) n (λ k. refl) in omega arith
-lines_at_most (x ∷ ls) n =
-    let rest = lines_at_most ls n in
-    ⊎_elim
-    (λ lt.
-    let changed = sum_changed (lines_below ls) (lines_below (x ∷ ls)) x.hart.0 n lt (λ k ne. more_lines x ls k (λ q. ne (sym q))) in
-    let one = one_line x ls in
-    omega arith)
-    (λ le.
-    let same = sum_same (lines_below ls) (lines_below (x ∷ ls)) n (λ k lt. more_lines x ls k (λ q. let q' = q in omega arith)) in
-    omega arith)
+lines_at_most (x ∷ ls) n = ⊎_elim
+    (λ lt. omega (arith, lines_at_most ls n, sum_changed (lines_below ls) (lines_below (x ∷ ls)) x.hart.0 n lt (λ k ne. more_lines x ls k (λ q. ne (sym q))), one_line x ls))
+    (λ le. omega (arith, lines_at_most ls n, sum_same (lines_below ls) (lines_below (x ∷ ls)) n (λ k lt. more_lines x ls k (λ q. omega arith))))
     (cases_lt x.hart.0 n)
 
 -- a legal history of as many entries as there are lines leaves no line

@@ -1,14 +1,13 @@
 -- The first check that fails answers.
-use Rattle.std.proofs.Common.{◌≡◌, ℕ, zero, suc, ◌⊎◌, inl, inr, Bool, true, false, List, [], ◌∷◌, take, slice_get, Some, None, refl, sym, ◌∙◌, ap, subst, true≢false, unwrap_or, ◌↔◌}
-use Rattle.std.proofs.lemmas.Bool.{cond-false, cond-true}
+use Rattle.std.proofs.Common.{◌≡◌, ℕ, zero, suc, ◌⊎◌, inl, inr, Bool, true, false, List, [], ◌∷◌, take, slice_get, Some, None, refl, sym, ◌∙◌, ap, subst, true≢false, ◌↔◌}
+use Rattle.std.proofs.lemmas.Bool.{both_ways, cond-false, cond-true}
 use Rattle.std.proofs.lemmas.Option.{none-some, same_Some}
 use Rattle.std.specs.List.{AllByRecursion}
 use Rattle.cove_base.specs.Statuses.{is_success}
 use Rattle.cove_base.specs.declared.calls.HostCall.{HostCall}
-use Rattle.cove_base.specs.declared.calls.HostCall.TheVariants.{Convert, GlobalFence, LocalFence, Reclaim}
-use Rattle.cove_base.specs.declared.statuses.Reply.{Reply}
+use Rattle.cove_base.specs.declared.calls.HostCall.TheVariants.{LocalFence}
 use Rattle.cove_base.specs.declared.statuses.Status.TheVariants.{Success}
-use Rattle.cove_model.specs.Effects.{effect, outcome, refusal, reply_to, rule_of, state_after, state_by, value_of}
+use Rattle.cove_model.specs.Effects.{outcome, reply_to, rule_of, state_after}
 use Rattle.cove_model.specs.FirstChecks.{AllPassed, FailsFirst, refusal_by}
 use Rattle.cove_model.specs.Refusals.{Check, first_failing}
 use Rattle.cove_model.specs.States.{State}
@@ -23,14 +22,14 @@ first_or_passed (x ∷ xs) = go x.fails refl (first_or_passed xs)
     go false e (inl first) = inl (suc first.0, (first.1.0, record { stands = first.1.1.stands; fails = first.1.1.fails; earlier = (e, first.1.1.earlier) }))
     go false e (inr passed) = inr (e, passed)
 
+found_fact : (P : Check → Type 0) (checks : List Check) (i : ℕ) (check : Check) → slice_get checks i ≡ Some check → AllByRecursion P checks → P check
+found_fact P [] i check at all = absurd (none-some _ at)
+found_fact P (x ∷ xs) zero check at all = subst P (same_Some x check at) all.0
+found_fact P (x ∷ xs) (suc i) check at all = found_fact P xs i check at all.1
+
 -- where every check passes, none fails
 pub first_not_passed : (checks : List Check) (i : ℕ) (check : Check) → FailsFirst checks i check → AllPassed checks → ⊥
-first_not_passed checks i check first passed = go checks i first.stands passed
-  where
-    go : (checks : List Check) (i : ℕ) → slice_get checks i ≡ Some check → AllPassed checks → ⊥
-    go [] i at passed = none-some _ at
-    go (x ∷ xs) zero at passed = true≢false (sym first.fails ∙ ap (λ c. c.fails) (sym (same_Some x check at)) ∙ passed.0)
-    go (x ∷ xs) (suc i) at passed = go xs i at passed.1
+first_not_passed checks i check first passed = both_ways check.fails (found_fact (λ c. c.fails ≡ false) checks i check first.stands passed) first.fails
 
 -- one check alone fails first
 pub first_once : (checks : List Check) (i j : ℕ) (check other : Check) → FailsFirst checks i check → FailsFirst checks j other → (i ≡ j) × (check ≡ other)
@@ -60,38 +59,25 @@ passed_answers [] passed = refl
 passed_answers (x ∷ xs) passed = cond-false x.fails _ (first_failing xs) passed.0 ∙ passed_answers xs passed.1
 
 pub refused_by_first : (S : State) (hart : ℕ) (call : HostCall) (i : ℕ) (check : Check) → FailsFirst ((rule_of call).checks S hart) i check → (reply_to S hart call ≡ refusal_by check) × (state_after S hart call ≡ S)
-refused_by_first S hart call i check first =
-    let e : refusal S hart call ≡ Some (refusal_by check) = first_answers ((rule_of call).checks S hart) i check first in
-    let success : Reply = record { status = Success; value = value_of S hart call } in
-    (ap (λ o. unwrap_or o success) e, ap (λ o. state_by o S (effect S hart call)) e)
+refused_by_first S hart call i check first = rw (first_answers ((rule_of call).checks S hart) i check first) (refl, refl)
 
 pub accepted_by_all : (S : State) (hart : ℕ) (call : HostCall) → AllPassed ((rule_of call).checks S hart) → (reply_to S hart call ≡ record { status = Success; value = (outcome S hart call).value }) × (state_after S hart call ≡ (outcome S hart call).state)
-accepted_by_all S hart call passed =
-    let e : refusal S hart call ≡ None = passed_answers ((rule_of call).checks S hart) passed in
-    let success : Reply = record { status = Success; value = value_of S hart call } in
-    (ap (λ o. unwrap_or o success) e, ap (λ o. state_by o S (effect S hart call)) e)
+accepted_by_all S hart call passed = rw (passed_answers ((rule_of call).checks S hart) passed) (refl, refl)
 
 -- no check answers success
 never_success : (S : State) (hart : ℕ) (call : HostCall) → AllByRecursion (λ check. is_success check.status ≡ false) ((rule_of call).checks S hart)
-never_success S hart (Convert base n) = (refl, (refl, (refl, (refl, (refl, tt)))))
-never_success S hart GlobalFence = (refl, tt)
 never_success S hart LocalFence = tt
-never_success S hart (Reclaim base n) = (refl, (refl, (refl, (refl, tt))))
-never_success S hart _ = (refl, tt)
-
-found_fact : (P : Check → Type 0) (checks : List Check) (i : ℕ) (check : Check) → slice_get checks i ≡ Some check → AllByRecursion P checks → P check
-found_fact P [] i check at all = absurd (none-some _ at)
-found_fact P (x ∷ xs) zero check at all = subst P (same_Some x check at) all.0
-found_fact P (x ∷ xs) (suc i) check at all = found_fact P xs i check at all.1
+never_success S hart call = assumption
 
 -- success is answered exactly where every check passes
 pub success_by_all : (S : State) (hart : ℕ) (call : HostCall) → ((reply_to S hart call).status ≡ Success) ↔ AllPassed ((rule_of call).checks S hart)
-success_by_all S hart call = (passes (first_or_passed ((rule_of call).checks S hart)), λ passed. ap (λ r. r.status) (accepted_by_all S hart call passed).0)
-  where
-    passes : ((i : ℕ) × ((check : Check) × FailsFirst ((rule_of call).checks S hart) i check)) ⊎ AllPassed ((rule_of call).checks S hart) → (reply_to S hart call).status ≡ Success → AllPassed ((rule_of call).checks S hart)
-    passes (inr passed) e = passed
-    passes (inl first) e =
-        let check = first.1.0 in
-        let not = found_fact (λ c. is_success c.status ≡ false) ((rule_of call).checks S hart) first.0 check first.1.1.stands (never_success S hart call) in
-        let is : check.status ≡ Success = sym (ap (λ r. r.status) (refused_by_first S hart call first.0 check first.1.1).0) ∙ e in
-        absurd (true≢false (sym (ap is_success is) ∙ not))
+success_by_all S hart call = (
+  λ e. elim (first_or_passed ((rule_of call).checks S hart)) [
+    | inr passed ↦ passed
+    | inl first ↦
+        let never = found_fact (λ c. is_success c.status ≡ false) ((rule_of call).checks S hart) first.0 first.1.0 first.1.1.stands (never_success S hart call) in
+        let is : first.1.0.status ≡ Success = sym (ap (λ r. r.status) (refused_by_first S hart call first.0 first.1.0 first.1.1).0) ∙ e in
+        absurd (true≢false (sym (ap is_success is) ∙ never))
+  ],
+  λ passed. ap (λ r. r.status) (accepted_by_all S hart call passed).0,
+)

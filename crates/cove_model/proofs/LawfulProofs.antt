@@ -1,5 +1,5 @@
 -- The stores of the calls on owners are lawful.
-use Rattle.std.proofs.Common.{◌≡◌, ◌≢◌, ℕ, zero, suc, ◌+◌, ◌/◌, ◌<◌, ◌≤◌, List, get_or, set, refl, sym, ◌∙◌, ap, subst, inl, arith, get_or-set_same, get_or-set_other}
+use Rattle.std.proofs.Common.{◌≡◌, ℕ, zero, suc, ◌+◌, ◌/◌, ◌<◌, ◌≤◌, List, get_or, set, refl, sym, ◌∙◌, ap, subst, inl, arith, get_or-set_same, get_or-set_other}
 use Rattle.std.proofs.Math.Path.{fun_ext}
 use Rattle.cove_base.specs.PageWords.{host, converting}
 use Rattle.cove_base.specs.Places.{epoch_word, answered_word}

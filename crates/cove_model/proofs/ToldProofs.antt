@@ -1,8 +1,8 @@
 -- What words that stand tell of the state.
-use Rattle.std.proofs.Common.{◌≡◌, ℕ, zero, suc, ◌+◌, ◌^◌, ◌<◌, ◌≤◌, ◌⊎◌, Bool, cond, ltb, List, [], ◌∷◌, length, get_or, refl, sym, ◌∙◌, ap, subst, inl, inr, arith, false, true}
+use Rattle.std.proofs.Common.{◌≡◌, ℕ, zero, suc, ◌+◌, ◌^◌, ◌<◌, ◌≤◌, Bool, ltb, [], length, get_or, refl, sym, ◌∙◌, inl, inr, arith, false, true}
 use Rattle.std.proofs.lemmas.Bool.{cases_lt, lt-ltb, le-ltb}
 use Rattle.std.specs.List.{filter, range_with_len}
-use Rattle.cove_base.specs.PageWords.{converting, released, IsHostWord, IsFreeWord, IsPageWord, OfHost, OfConverting, OfGiven, OfReleased}
+use Rattle.cove_base.specs.PageWords.{IsHostWord, IsFreeWord, IsPageWord, OfHost, OfConverting, OfGiven, OfReleased}
 use Rattle.cove_model.specs.Owners.{Owner, Host, Converting, Free, Given, is_host, is_free, page_at}
 use Rattle.cove_model.specs.WordsStand.{FreeStands, PageStands, role_of, epoch_in, answered_in, maps_of}
 use Rattle.cove_model.specs.WordLaws.{WordsTellHost, WordsTellFree, WordsTellAnswered, WordsTellLowest, WordsAreWords}
