@@ -118,13 +118,13 @@ part_all fill f i a past = rw (take_all i fill.bytes past)
 -- ---- the fills
 
 -- each fill of a script is within its memory
-pub fill_within : (script : ScriptValue) → IsTrue (is_within_limits script) → (i : ℕ) (d : Fill) → i < length script.fills → IsTrue (is_fill script.pages (get_or script.fills i d))
-fill_within script within i d below =
-    true_from_ne_false _ (λ no. both_ways _ (list_all_at (is_fill script.pages) script.fills i d below no) (limits_of script within).fills)
+pub fill_within : (script : ScriptValue) → IsTrue (is_within_limits script) → (i : ℕ) (fill : Fill) → i < length script.fills → fill ≡ get_or script.fills i fill → IsTrue (is_fill script.pages fill)
+fill_within script within i fill below is =
+    true_from_ne_false _ (λ no. both_ways _ (list_all_at (is_fill script.pages) script.fills i fill below (rw (← is) no)) (limits_of script within).fills)
 
--- the bounds of a fill
-pub opening_more : (fills : List Fill) (i : ℕ) (d : Fill) (a : ℕ) → i < length fills → byte_after a (opening_byte (take i fills) a) (get_or fills i d) ≡ opening_byte (take (i + 1) fills) a
-opening_more fills i d a below = rw (take_more fills i d below, fold-append)
+-- a byte after one fill more
+pub opening_more : (fills : List Fill) (i : ℕ) (fill : Fill) (a : ℕ) → i < length fills → fill ≡ get_or fills i fill → byte_after a (opening_byte (take i fills) a) fill ≡ opening_byte (take (i + 1) fills) a
+opening_more fills i fill a below is = rw (take_more fills i fill below, fold-append, ← is)
 
 -- new frames show zeros
 pub show_zeros : (n : ℕ) → FramesShow (replicate n zeros) (λ a. 0)
