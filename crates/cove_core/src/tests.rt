@@ -68,6 +68,7 @@ fn calls_of_two_harts_are_answered_in_turn(rt: HostRuntime) -> Result<(), Fail> 
 }
 
 // Hart 1 fences in the first phase, and hart 0 stores and loads in the second.
+#[tactic(auto, unfolding(cove_base::specs::Scripts::is_within_limits))]
 fn script(alloc: Global) -> Result<Script, NoMemory>
     ensures { IfOk result (λ script. (script.pages ≡ 16) × (script.harts ≡ 2)) }
 {
