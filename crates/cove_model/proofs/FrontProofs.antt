@@ -1,9 +1,8 @@
 -- A script in front of other text, and the lines up to the first line `end`.
-use Rattle.std.proofs.Common.{◌≡◌, ℕ, suc, ◌+◌, ◌≤◌, true, false, cond, not, min, nat_lt, ◌==◌, ◌⊎◌, List, [], ◌∷◌, ◌++◌, length, take, sum_by, codes, Result, Ok, Err, refl, sym, ap, subst, ◌∙◌, append_assoc, inl, inr, arith}
+use Rattle.std.proofs.Common.{◌≡◌, ℕ, suc, ◌+◌, ◌≤◌, true, false, cond, not, min, nat_lt, ◌⊎◌, List, [], ◌∷◌, ◌++◌, length, take, sum_by, codes, Result, Ok, Err, refl, sym, ap, subst, ◌∙◌, append_assoc, inl, inr, arith}
 use Rattle.std.specs.List.{list_all}
-use Rattle.std.proofs.lemmas.Bool.{both_ways, cases_Bool, cases_cond, cases_lt, cond_both, and_parts, and_from, not-true, ltb-false, le-ltb, lt-ltb, eqb-true}
-use Rattle.std.proofs.lemmas.List.{append-nil, length-append, length_push, length-take, take_all, take_at}
-use Rattle.std.proofs.lemmas.Bool.Decides.{nat_tests}
+use Rattle.std.proofs.lemmas.Bool.{both_ways, cases_Bool, cases_cond, cases_lt, cond_both, and_parts, and_from, not-false, not-true, ltb-false, le-ltb, lt-ltb, eqb-true}
+use Rattle.std.proofs.lemmas.List.{append-nil, length-append, length_push, length-take, nil_from_length, take_all, take_at}
 use Rattle.std.proofs.lemmas.Slice.Eq.{bytes_eq-Decides}
 use Rattle.std.proofs.lemmas.List.Sums.{sum_by-cons}
 use Rattle.cove_base.specs.declared.faults.Kind.{Kind}
@@ -17,13 +16,9 @@ use Rattle.cove_model.proofs.GrammarLimits.{accepted, line_cases, passed}
 
 -- ---- the line `end` is the one after which the script has ended
 
-some_words : (n : ℕ) → not (suc n == 0) ≡ false → ⊥
-some_words n e = grind (arith, nat_tests)
-
 -- of the forms of a line, only the line `end` ends the script
 form_that_ends : (R : Reading) (content : Content) → R.has_end ≡ false → (reading_after R content).has_end ≡ true → has_wrong_count content ≡ false → content ≡ EndLine []
-form_that_ends R (EndLine []) going ended count = refl
-form_that_ends R (EndLine (word ∷ words)) going ended count = absurd (some_words (length words) count)
+form_that_ends R (EndLine words) going ended count = ap EndLine (nil_from_length words (eqb-true (length words) 0 (not-false _ count)))
 form_that_ends R content going ended count = absurd (both_ways R.has_end going ended)
 
 only_end : (first : Word) (words : List Word) → content_of first words ≡ EndLine [] → is_end (first ∷ words) ≡ true
@@ -200,14 +195,10 @@ script_of-short limit text short = rw (le-ltb limit (length text) short) refl
 -- ---- the front of a text is a script's
 
 placed : (place at : ℕ) (r : Result ScriptValue ScriptFault) (script : ScriptValue) → with_place place r ≡ Ok (script, at) → (r ≡ Ok script) × (place ≡ at)
-placed place at (Ok s) script e =
-    let p : (s, place) ≡ (script, at) = cc in
-    (ap (λ (q : ScriptValue × ℕ). Ok q.0) p, ap (λ (q : ScriptValue × ℕ). q.1) p)
-placed place at (Err fault) script e = absurd cc
+placed place at r script e = grind arith
 
 refused : (place : ℕ) (r : Result ScriptValue ScriptFault) (fault : ScriptFault) → with_place place r ≡ Err fault → r ≡ Err fault
-refused place (Ok s) fault e = absurd cc
-refused place (Err f) fault e = cc
+refused place r fault e = grind arith
 
 pub is_front : (limit : ℕ) (text : List ℕ) (script : ScriptValue) (place : ℕ) → front_of limit text ≡ Ok (script, place) → IsFront limit text script place
 unfolding front_of

@@ -3,12 +3,12 @@ use Rattle.std.proofs.Common.{◌≡◌, ℕ, ◌+◌, ◌^◌, ◌<◌, ◌≤�
 use Rattle.std.specs.List.{list_all}
 use Rattle.std.specs.Option.{option_map_or}
 use Rattle.std.proofs.lemmas.Bool.{cases_cond, not-false, and_parts, and_from, leb-true, le-leb, lt-ltb}
+use Rattle.std.proofs.lemmas.Bool.Decides.{nat_tests}
 use Rattle.std.proofs.lemmas.List.{append-nil}
 use Rattle.std.proofs.lemmas.List.Folds.{list_all-append}
 use Rattle.cove_base.proofs.ScriptLimits.{Tests, all_weaker, limits_from_tests, within_from_tests}
 use Rattle.cove_base.specs.declared.limits.TheConstants.{PHASE_LIMIT}
-use Rattle.cove_base.specs.declared.faults.Kind.{Kind}
-use Rattle.cove_base.specs.declared.faults.Kind.TheVariants.{NotAscii, BadHeader, UnknownWord, BadNumber, WrongCount, OutOfBoard}
+use Rattle.cove_base.specs.declared.faults.Kind.TheVariants.{BadHeader, UnknownWord, BadNumber, WrongCount, OutOfBoard}
 use Rattle.cove_base.specs.declared.scripts.Line.{Line}
 use Rattle.cove_base.specs.declared.scripts.ScriptLine.{ScriptLine}
 use Rattle.cove_base.specs.Text.{text_words}
@@ -42,10 +42,7 @@ all_push p xs ys a b = list_all-append p xs ys ∙ and_from _ _ a b
 
 rise_push : (first : ℕ) (lines : List ScriptLine) (line : ScriptLine) → first ≤ line.phase → phases_rise_from first lines ≡ true → list_all (is_of_phase line.phase) lines ≡ true → phases_rise_from first (lines ++ line ∷ []) ≡ true
 rise_push first [] line le rise past = and_from _ _ (le-leb first line.phase le) refl
-rise_push first (x ∷ lines) line le rise past =
-    let r = and_parts _ _ rise in
-    let p = and_parts _ _ past in
-    and_from _ _ r.0 (rise_push x.phase lines line (leb-true x.phase line.phase p.0) r.1 p.1)
+rise_push first (x ∷ lines) line le rise past = grind (arith, nat_tests, rise_push x.phase lines line)
 
 later : (phase next : ℕ) → phase ≤ next → (lines : List ScriptLine) → list_all (is_of_phase phase) lines ≡ true → list_all (is_of_phase next) lines ≡ true
 later phase next le lines e = all_weaker (is_of_phase phase) (is_of_phase next) (λ line h. le-leb line.phase next (let a : line.phase ≤ phase = leb-true line.phase phase h in omega arith)) lines e
@@ -78,7 +75,11 @@ accepted R content S e =
 -- a line that is read says nothing, or is one without fault
 pub line_cases : (R : Reading) (line : List ℕ) (S : Reading) → line_read R line ≡ Ok S → (R ≡ S) ⊎ ((first : Word) × (words : List Word) × (text_words line ≡ first ∷ words) × IsAccepted R (content_of first words) S)
 unfolding line_read words_read
-line_cases R line S e = of_line (cases_cond (is_ascii line) _ _ _ (sym e))
+line_cases R line S e =
+    elim (cases_cond (is_ascii line) _ _ _ (sym e)) [
+      | inl read ↦ of_words (text_words line) (sym read)
+      | inr bad ↦ absurd cc
+    ]
   where
     of_words : (words : List Word) → words_read R words ≡ Ok S → (R ≡ S) ⊎ ((first : Word) × (rest : List Word) × (words ≡ first ∷ rest) × IsAccepted R (content_of first rest) S)
     of_words [] f = inl cc
@@ -86,10 +87,6 @@ line_cases R line S e = of_line (cases_cond (is_ascii line) _ _ _ (sym e))
       | inl same ↦ inl cc
       | inr read ↦ inr (first, rest, refl, accepted R (content_of first rest) S (sym read))
     ]
-
-    of_line : (Ok S ≡ words_read R (text_words line)) ⊎ (◌≡◌ {A = Result Reading Kind} (Ok S) (Err NotAscii)) → (R ≡ S) ⊎ ((first : Word) × (words : List Word) × (text_words line ≡ first ∷ words) × IsAccepted R (content_of first words) S)
-    of_line (inl read) = of_words (text_words line) (sym read)
-    of_line (inr bad) = absurd cc
 
 -- a reading that kept the limits keeps them, and its phase is the next one at most
 pub record Keeps (R S : Reading) : Type 0 where

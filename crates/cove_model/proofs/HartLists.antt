@@ -1,6 +1,6 @@
 -- Lists of the harts that pass a test.
-use Rattle.std.proofs.Common.{◌≡◌, ◌≢◌, ℕ, zero, suc, ◌+◌, ◌<◌, ◌≤◌, Bool, true, eqb, ltb, not, ◌&&◌, List, [], ◌∷◌, ap, refl, ◌∙◌, inl, inr, arith, eq-eqb}
-use Rattle.std.proofs.lemmas.Bool.{cases_lt, or_left, false≢true, ltb-true, lt-ltb}
+use Rattle.std.proofs.Common.{◌≡◌, ◌≢◌, ℕ, zero, suc, ◌+◌, ◌<◌, ◌≤◌, Bool, true, eqb, ltb, not, ◌&&◌, List, [], ◌∷◌, ap, refl, ◌∙◌, arith, eq-eqb}
+use Rattle.std.proofs.lemmas.Bool.{or_left, false≢true, ltb-true, lt-ltb}
 use Rattle.std.proofs.lemmas.Bool.Decides.{nat_tests}
 use Rattle.std.specs.List.{filter, range_with_len}
 use Rattle.cove_model.specs.Owners.{has, without}
@@ -47,10 +47,9 @@ has_first x xs = or_left (eqb x x) (has x xs) (eq-eqb x x refl)
 -- where no hart is behind, each has answered
 pub none_behind : (harts : ℕ) (answered : ℕ → ℕ) (number : ℕ) → [] ≡ harts_behind harts answered number → (k : ℕ) → k < harts → number ≤ answered k
 none_behind harts answered number none k within =
-    elim (cases_lt (answered k) number) [
-      | inl less ↦ absurd (false≢true (ap (has k) none ∙ has_behind harts answered number k within less))
-      | inr over ↦ over
-    ]
+    let has_it = has_behind harts answered number k within in
+    let none_there = ap (has k) none in
+    grind arith
 
 -- the others of a board, by a test that fails of one hart alone
 pub others_behind : (harts hart : ℕ) (answered : ℕ → ℕ) (number : ℕ) → number ≤ answered hart → ((k : ℕ) → k < harts → k ≢ hart → answered k < number) → without hart (harts_below harts) ≡ harts_behind harts answered number

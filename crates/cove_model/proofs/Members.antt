@@ -5,7 +5,7 @@ use Rattle.cove_model.specs.Owners.{has, without}
 use Rattle.cove_model.specs.Sound.{Rises}
 use Rattle.cove_model.specs.States.{harts_below}
 use Rattle.cove_model.specs.Tlbs.{pages_filled}
-use Rattle.std.proofs.Common.{List, [], arith, drop, eqb, eqb-true, false, inl, inr, length, not, refl, suc, sym, true, zero, ℕ, ⊎_elim, ◌++◌, ◌+◌, ◌-◌, ◌<◌, ◌∙◌, ◌∷◌, ◌≡◌, ◌≤◌, ◌⊎◌}
+use Rattle.std.proofs.Common.{List, [], arith, drop, eqb, false, inl, length, not, refl, suc, sym, true, zero, ℕ, ◌++◌, ◌+◌, ◌-◌, ◌<◌, ◌∙◌, ◌∷◌, ◌≡◌, ◌≤◌, ◌⊎◌}
 use Rattle.std.proofs.lemmas.Bool.{cond_both, or_cases, or_right}
 use Rattle.std.proofs.lemmas.Bool.Decides.{nat_tests}
 use Rattle.std.proofs.lemmas.List.Folds.{list_any-append}
@@ -52,9 +52,9 @@ has_drop n (suc k) (x ∷ xs) e = or_right (eqb x n) (has n xs) (has_drop n k xs
 -- a walk adds its page alone
 pub has_filled : (how : How) (n p : ℕ) (ps : List ℕ) → has n (pages_filled how p ps) ≡ true → (has n ps ≡ true) ⊎ (p ≡ n)
 has_filled Hit n p ps e = inl e
-has_filled Walk n p ps e = ⊎_elim inl
-    (λ there. inr (⊎_elim (λ here. eqb-true p n here) false-true (or_cases (eqb p n) false there)))
-    (has_append n ps (p ∷ []) (has_drop n (length (ps ++ p ∷ []) - 4) (ps ++ p ∷ []) e))
+has_filled Walk n p ps e =
+    let there = has_append n ps (p ∷ []) (has_drop n (length (ps ++ p ∷ []) - 4) (ps ++ p ∷ []) e) in
+    grind (arith, nat_tests)
 
 -- ---- rising lists
 

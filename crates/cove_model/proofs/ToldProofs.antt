@@ -2,23 +2,17 @@
 use Rattle.std.proofs.Common.{◌≡◌, ℕ, zero, suc, ◌+◌, ◌^◌, ◌<◌, ◌≤◌, Bool, ltb, [], length, get_or, refl, sym, ◌∙◌, inl, inr, arith, false, true}
 use Rattle.std.proofs.lemmas.Bool.{cases_lt, lt-ltb, le-ltb}
 use Rattle.std.specs.List.{filter, range_with_len}
-use Rattle.cove_base.specs.PageWords.{IsHostWord, IsFreeWord, IsPageWord, OfHost, OfConverting, OfGiven, OfReleased}
-use Rattle.cove_model.specs.Owners.{Owner, Host, Converting, Free, Given, is_host, is_free, page_at}
+use Rattle.cove_base.specs.PageWords.{IsFreeWord, IsPageWord, OfHost, OfConverting, OfGiven, OfReleased}
+use Rattle.cove_model.specs.Owners.{Owner, Host, Converting, Free, Given, page_at}
 use Rattle.cove_model.specs.WordsStand.{FreeStands, PageStands, role_of, epoch_in, answered_in, maps_of}
 use Rattle.cove_model.specs.WordLaws.{WordsTellHost, WordsTellFree, WordsTellAnswered, WordsTellLowest, WordsAreWords}
 use Rattle.cove_model.proofs.StandLemmas.{host_page, free_page}
 
-host_from : (harts epoch : ℕ) (numbers : ℕ → ℕ) (maps word : ℕ) (owner : Owner) → PageStands harts epoch numbers maps word owner → IsHostWord word → is_host owner ≡ true
-host_from harts epoch numbers maps word owner stands is = grind arith
-
 pub words_tell_host : WordsTellHost
 words_tell_host pages harts words S p within old = (
   λ e. let was = host_page (page_at S.pages p) e in (maps_of S p, rw was.1 at (old.page p within)),
-  λ is. host_from harts (epoch_in pages words) (answered_in pages words) (maps_of S p) (get_or words p 0) (page_at S.pages p) (old.page p within) is,
+  λ is. let stands = old.page p within in grind arith,
 )
-
-free_from : (harts epoch : ℕ) (numbers : ℕ → ℕ) (maps word floor : ℕ) → ((k : ℕ) → k < harts → floor ≤ numbers k) → (owner : Owner) → PageStands harts epoch numbers maps word owner → IsFreeWord floor word → is_free owner ≡ true
-free_from harts epoch numbers maps word floor least owner stands is = grind arith
 
 free_to : (harts : ℕ) (numbers : ℕ → ℕ) (word floor : ℕ) → (k : ℕ) × (k < harts) × (floor ≡ numbers k) → FreeStands harts numbers word → IsFreeWord floor word
 free_to harts numbers word floor one (inl is) = inl is
@@ -27,7 +21,7 @@ free_to harts numbers word floor one (inr stands) = inr (stands.0, omega (arith,
 pub words_tell_free : WordsTellFree
 words_tell_free pages harts words S p floor within old least = (
   λ e. free_to harts (answered_in pages words) (get_or words p 0) floor least.1 (rw (free_page (page_at S.pages p) e) at (old.page p within)),
-  λ is. free_from harts (epoch_in pages words) (answered_in pages words) (maps_of S p) (get_or words p 0) floor least.0 (page_at S.pages p) (old.page p within) is,
+  λ is. let stands = old.page p within in let answers = least.0 in grind arith,
 )
 
 pub filter_none : (p : ℕ → Bool) (a n : ℕ) → ((k : ℕ) → a ≤ k → k < a + n → p k ≡ false) → filter p (range_with_len a n) ≡ []
