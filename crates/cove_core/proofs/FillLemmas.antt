@@ -25,20 +25,15 @@ use Rattle.cove_model.specs.WordsStand.{FramesStand}
 same_run : (f g : ℕ → ℕ) (a n : ℕ) → ((c : ℕ) → a ≤ c → c < a + n → f c ≡ g c) → map f (range_with_len a n) ≡ map g (range_with_len a n)
 same_run f g a zero same = refl
 same_run f g a (suc n) same =
-    let head = same a (omega arith) (omega arith) in
-    let rest = same_run f g (a + 1) n (λ c low high. same c (omega arith) (omega arith)) in
-    λ i. head i ∷ rest i
+    rw (same a (omega arith) (omega arith), same_run f g (a + 1) n (λ c low high. same c (omega arith) (omega arith)))
 
 set_run : (f g : ℕ → ℕ) (a n k y : ℕ) → k < n → g (a + k) ≡ y → ((c : ℕ) → c ≢ a + k → f c ≡ g c) → set (map f (range_with_len a n)) k y ≡ map g (range_with_len a n)
 set_run f g a zero k y lt at other = absurd (omega arith)
 set_run f g a (suc n) zero y lt at other =
     let head : y ≡ g a = sym at ∙ ap g (omega arith) in
-    let rest = same_run f g (a + 1) n (λ c low high. other c (omega arith)) in
-    λ i. head i ∷ rest i
+    rw (head, same_run f g (a + 1) n (λ c low high. other c (omega arith)))
 set_run f g a (suc n) (suc k) y lt at other =
-    let head = other a (omega arith) in
-    let rest = set_run f g (a + 1) n k y (omega arith) (ap g (omega arith) ∙ at) (λ c ne. other c (omega arith)) in
-    λ i. head i ∷ rest i
+    rw (other a (omega arith), set_run f g (a + 1) n k y (omega arith) (ap g (omega arith) ∙ at) (λ c ne. other c (omega arith)))
 
 small_run : (f : ℕ → ℕ) (addrs : List ℕ) → ((c : ℕ) → f c < 256) → (i : ℕ) → get_or (map f addrs) i 0 < 256
 small_run f [] small i = omega arith

@@ -1,5 +1,5 @@
 -- At the opening the empty history is kept, and each hart of the board fits it.
-use Rattle.std.proofs.Common.{◌≡◌, ℕ, ◌<◌, List, [], None, get_or, length, replicate, refl, sym, subst, arith}
+use Rattle.std.proofs.Common.{◌≡◌, ℕ, ◌<◌, List, [], None, get_or, length, replicate, refl, sym, arith}
 use Rattle.cove_base.specs.HartPlaces.{IsNextPlace}
 use Rattle.cove_base.specs.Places.{all_words, count_word, epoch_word}
 use Rattle.cove_base.specs.Scripts.{ScriptValue}
@@ -17,10 +17,7 @@ none_ended script h = replicate_zero script.harts h
 
 -- the first place of each hart is its place at the opening
 pub opening_progress : (script : ScriptValue) (places : List ℕ) → length places ≡ script.harts → ((h : ℕ) → h < script.harts → IsNextPlace script h 0 (get_or places h 0)) → ProgressStands script (opening script) places
-opening_progress script places count each = record {
-  count = count;
-  each = λ h below. subst (λ n. IsNextPlace script h n (get_or places h 0)) (sym (none_ended script h)) (each h below);
-}
+opening_progress script places count each = record { count = count; each = λ h below. rw (none_ended script h) (each h below) }
 
 -- words of zeros, frames of the opening memory and the first places keep the empty history
 pub opening_kept : (script : ScriptValue) (ground : Ground) (places : List ℕ) → IsBoard script ground → FramesStand ground.memory (opening script) → ProgressStands script (opening script) places → IsKept script (replicate (all_words script.pages script.harts) 0) (record { ground = ground; history = []; progress = places })

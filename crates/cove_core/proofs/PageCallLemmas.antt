@@ -1,5 +1,5 @@
 -- What convert and reclaim answer and leave, by the tests that were made of their pages.
-use Rattle.std.proofs.Common.{◌≡◌, ◌↔◌, ℕ, zero, suc, ◌+◌, ◌/◌, ◌<◌, ◌≤◌, Bool, true, false, List, ◌∷◌, length, get_or, Err, Ok, refl, ◌∙◌, inl, inr, arith}
+use Rattle.std.proofs.Common.{◌≡◌, ◌↔◌, ℕ, ◌+◌, ◌/◌, ◌<◌, ◌≤◌, Bool, true, false, List, ◌∷◌, length, get_or, Err, Ok, refl, ◌∙◌, inl, inr, arith}
 use Rattle.std.proofs.lemmas.Bool.Decides.{same_from_decides}
 use Rattle.cove_base.proofs.StoreLemmas.{get_or-fills_other}
 use Rattle.cove_base.specs.PageWords.{host, converting, IsPageWord, IsHostWord, IsMappedWord, IsFreeWord}
@@ -45,8 +45,7 @@ none_mapped pages harts words S p on owners is =
 
 -- a word of the host's that is not mapped
 unmapped : (word : ℕ) → IsHostWord word → (IsMappedWord word → ⊥) → word ≡ host 0
-unmapped word (zero, is) fails = is
-unmapped word (suc m, is) fails = absurd (fails (suc m, omega arith, is))
+unmapped word is fails = grind arith
 
 -- a page word that is free by the floor is free by the answered numbers
 free_by_floor : (harts : ℕ) (numbers : ℕ → ℕ) (floor word : ℕ) → ((k : ℕ) → k < harts → floor ≤ numbers k) → IsFreeWord floor word → FreeStands harts numbers word

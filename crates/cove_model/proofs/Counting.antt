@@ -12,7 +12,7 @@ use Rattle.cove_model.proofs.Usable.{entry_on_board}
 use Rattle.cove_model.specs.Histories.{Legal, after}
 use Rattle.cove_model.specs.Played.{IsOver, played}
 use Rattle.cove_model.specs.States.{ended_by, opening}
-use Rattle.std.proofs.Common.{List, [], ap, arith, eq-eqb, eqb, filter, length, ne_eqb, refl, suc, sym, zero, ℕ, ⊎_elim, ◌++◌, ◌+◌, ◌∙◌, ◌∷◌, ◌≡◌, ◌≤◌}
+use Rattle.std.proofs.Common.{List, [], ap, arith, eq-eqb, eqb, filter, length, ne_eqb, refl, suc, sym, zero, ℕ, ⊎_elim, ◌++◌, ◌∙◌, ◌∷◌, ◌≡◌, ◌≤◌}
 use Rattle.std.proofs.lemmas.Bool.{cases_lt, cond-false, cond-true}
 use Rattle.std.proofs.lemmas.List.{length-map, length_push}
 use Rattle.std.proofs.lemmas.Option.{slice_get_past}
@@ -36,13 +36,8 @@ counted script limits = from_end (λ H. Legal script H → ended_sum script H �
     let board = size.size in
     let own' = ap (λ T. ended_by T e.hart.0) (after_push script H e) ∙ ended_own (after script H) e.hart.0 e.event (omega arith) in
     let changed = sum_changed (λ h. ended_by (after script H) h) (λ h. ended_by (after script (H ++ e ∷ [])) h) e.hart.0 script.harts lt (λ k ne. ap (λ T. ended_by T k) (after_push script H e) ∙ ended_other (after script H) e.hart.0 k e.event ne) in
-    let longer = length_push H e in
-    let before = more front in
-    one_longer (ended_sum script H) (ended_sum script (H ++ e ∷ [])) (ended_by (after script H) e.hart.0) (ended_by (after script (H ++ e ∷ [])) e.hart.0) (length H) (length (H ++ e ∷ [])) changed own' longer before)
+    omega (arith, changed, own', length_push H e, more front))
     (λ legal. zero_sum (λ h. ended_by (opening script) h) script.harts (replicate_zero script.harts))
-  where
-    one_longer : (a b c d m n : ℕ) → b + c ≡ a + d → d ≡ c + 1 → n ≡ m + 1 → a ≡ m → b ≡ n
-    one_longer a b c d m n p q r s = omega arith
 
 -- the lines of all harts of the board are at most all lines
 abbrev lines_below : (ls : List ScriptLine) → ℕ → ℕ

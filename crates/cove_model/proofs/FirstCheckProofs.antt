@@ -1,6 +1,6 @@
 -- The first check that fails answers.
 use Rattle.std.proofs.Common.{◌≡◌, ℕ, zero, suc, ◌⊎◌, inl, inr, Bool, true, false, List, [], ◌∷◌, take, slice_get, Some, None, refl, sym, ◌∙◌, ap, subst, true≢false, ◌↔◌}
-use Rattle.std.proofs.lemmas.Bool.{both_ways, cond-false, cond-true}
+use Rattle.std.proofs.lemmas.Bool.{both_ways}
 use Rattle.std.proofs.lemmas.Option.{none-some, same_Some}
 use Rattle.std.specs.List.{AllByRecursion}
 use Rattle.cove_base.specs.Statuses.{is_success}
@@ -49,14 +49,13 @@ first_answers checks i check first = go checks i first.stands first.earlier
   where
     go : (checks : List Check) (i : ℕ) → slice_get checks i ≡ Some check → AllPassed (take i checks) → first_failing checks ≡ Some (refusal_by check)
     go [] i at earlier = absurd (none-some _ at)
-    go (x ∷ xs) zero at earlier =
-        cond-true x.fails _ (first_failing xs) (ap (λ c. c.fails) (same_Some x check at) ∙ first.fails) ∙ ap (λ c. Some (refusal_by c)) (same_Some x check at)
-    go (x ∷ xs) (suc i) at earlier = cond-false x.fails _ (first_failing xs) earlier.0 ∙ go xs i at earlier.1
+    go (x ∷ xs) zero at earlier = rw (same_Some x check at, first.fails)
+    go (x ∷ xs) (suc i) at earlier = rw earlier.0 (go xs i at earlier.1)
 
 -- where every check passes, none answers
 passed_answers : (checks : List Check) → AllPassed checks → first_failing checks ≡ None
 passed_answers [] passed = refl
-passed_answers (x ∷ xs) passed = cond-false x.fails _ (first_failing xs) passed.0 ∙ passed_answers xs passed.1
+passed_answers (x ∷ xs) passed = rw passed.0 (passed_answers xs passed.1)
 
 pub refused_by_first : (S : State) (hart : ℕ) (call : HostCall) (i : ℕ) (check : Check) → FailsFirst ((rule_of call).checks S hart) i check → (reply_to S hart call ≡ refusal_by check) × (state_after S hart call ≡ S)
 refused_by_first S hart call i check first = rw (first_answers ((rule_of call).checks S hart) i check first) (refl, refl)
