@@ -143,6 +143,7 @@ filled_stands script frames count shows = record {
   frame = λ p below.
       let size = shows.size p below in
       let same : get_or frames p [] ≡ opening_words script.fills p =
-      ext_get_or 0 _ _ (size ∙ sym (opening_size script.fills p)) (λ i on. shows.word p i below (omega (arith, size)) ∙ sym (opening_word script.fills p i (omega (arith, size)))) in
+      ext_get_or 0 _ _ (size ∙ sym (opening_size script.fills p)) (λ i on.
+      shows.word p i below (omega (arith, size)) ∙ sym (opening_word script.fills p i (omega (arith, size)))) in
       rw (opening_page script p (omega (arith, count))) same;
 }

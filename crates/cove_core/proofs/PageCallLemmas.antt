@@ -71,17 +71,22 @@ module _ (pages harts hart : ℕ) (words : List ℕ) (frames : List (List ℕ)) 
     -- a test that was made of the range is the definition's
     told : (test : Owner → Bool) (P : ℕ → Type 0) (b : Bool) → ((b ≡ true) ↔ EveryPage P words range.first.0 range.count) → (S : State) → length S.pages ≡ pages → ((p : ℕ) → p < pages → (test (page_at S.pages p) ≡ true) ↔ P (get_or words p 0)) → every test (base / 4096) n S.pages ≡ b
     told test P b tells S long each =
-        same_from_decides _ b (every_told test P words S.pages (base / 4096) n (omega (arith, found)) (λ p on. each p (omega arith))) (rw (found.first, found.size) at tells)
+        same_from_decides _ b (every_told test P words S.pages (base / 4096) n (omega (arith, found)) (λ p on. each p (omega arith)))
+        (rw (found.first, found.size) at tells)
 
     -- the pages are filled with a word
     filled : (call : HostCall) (word : ℕ) (now : List (List ℕ)) → AllAllowed (IsLawful pages harts no_tables hart words) words (fills range.first.0 range.count word) → ((S : State) → Stand pages harts words S → FramesStand frames S → Accepts pages harts hart call (stored words (fills (base / 4096) n word)) now S) → Called pages harts hart call words (stored words (fills range.first.0 range.count word)) frames now accepted
     filled call word now lawful each =
-        let kept : (place : ℕ) → pages ≤ place → get_or (stored words (fills (base / 4096) n word)) place 0 ≡ get_or words place 0 = λ place past. get_or-fills_other words (base / 4096) n word place (inr (omega (arith, found))) in
-        rw (found.first, found.size) (accepts pages harts hart call words frames now (fills (base / 4096) n word) (rw (found.first, found.size) at lawful) (omega (arith, kept (epoch_word pages) (omega arith))) (kept (count_word pages harts) (omega arith)) each)
+        let kept : (place : ℕ) → pages ≤ place → get_or (stored words (fills (base / 4096) n word)) place 0 ≡ get_or words place 0 =
+        λ place past. get_or-fills_other words (base / 4096) n word place (inr (omega (arith, found))) in
+        rw (found.first, found.size) (accepts pages harts hart call words frames now (fills (base / 4096) n word)
+        (rw (found.first, found.size) at lawful) (omega (arith, kept (epoch_word pages) (omega arith))) (kept (count_word pages harts) (omega arith)) each)
 
     module _ (all : Bool) (tells : (all ≡ true) ↔ EveryPage IsHostWord words range.first.0 range.count) where
       host_told : (S : State) → Stand pages harts words S → every is_host (base / 4096) n S.pages ≡ all
-      host_told S stand = told is_host IsHostWord all tells S stand.stands.owners.page_count (λ p on. words_tell_host pages harts words S p on stand.stands.owners)
+      host_told S stand =
+          told is_host IsHostWord all tells S stand.stands.owners.page_count
+          (λ p on. words_tell_host pages harts words S p on stand.stands.owners)
 
       pub convert_denied : all ≡ false → Called pages harts hart (Convert base n) words words frames frames (refused_with InvalidAddress)
       convert_denied fails =
@@ -92,13 +97,15 @@ module _ (pages harts hart : ℕ) (words : List ℕ) (frames : List (List ℕ)) 
         pub convert_mapped : SomePage IsMappedWord words range.first.0 range.count → Called pages harts hart (Convert base n) words words frames frames (refused_with Denied)
         convert_mapped some =
             refuses pages harts hart (Convert base n) words frames (refused_with Denied) (λ S stand.
-            absurd (let none = none_mapped pages harts words S some.0 (omega (arith, found, some.1, some.2)) stand.stands.owners (tells.0 passes some.0 some.1 some.2) in omega (arith, some.3)))
+            let none = none_mapped pages harts words S some.0 (omega (arith, found, some.1, some.2)) stand.stands.owners (tells.0 passes some.0 some.1 some.2) in
+            absurd (omega (arith, some.3)))
 
         module _ (none : SomePage IsMappedWord words range.first.0 range.count → ⊥) where
           pub convert_lawful : AllAllowed (IsLawful pages harts no_tables hart words) words (fills range.first.0 range.count (converting (epoch_in pages words)))
           convert_lawful =
               rw (found.first, found.size) (convert_is_lawful pages harts no_tables words hart base n found.fits (λ p low high.
-              unmapped (get_or words p 0) (tells.0 passes p (omega (arith, found)) (omega (arith, found))) (λ mapped. none (p, omega (arith, found), omega (arith, found), mapped))))
+              unmapped (get_or words p 0) (tells.0 passes p (omega (arith, found)) (omega (arith, found)))
+              (λ mapped. none (p, omega (arith, found), omega (arith, found), mapped))))
 
           pub convert_accepted : Called pages harts hart (Convert base n) words (stored words (fills range.first.0 range.count (converting (epoch_in pages words)))) frames frames accepted
           convert_accepted =
@@ -111,7 +118,9 @@ module _ (pages harts hart : ℕ) (words : List ℕ) (frames : List (List ℕ)) 
 
     module _ (floor : ℕ) (least : IsFloor pages harts words floor) (all : Bool) (tells : (all ≡ true) ↔ EveryPage (IsFreeWord floor) words range.first.0 range.count) where
       free_told : (S : State) → Stand pages harts words S → every is_free (base / 4096) n S.pages ≡ all
-      free_told S stand = told is_free (IsFreeWord floor) all tells S stand.stands.owners.page_count (λ p on. words_tell_free pages harts words S p floor on stand.stands.owners least)
+      free_told S stand =
+          told is_free (IsFreeWord floor) all tells S stand.stands.owners.page_count
+          (λ p on. words_tell_free pages harts words S p floor on stand.stands.owners least)
 
       pub reclaim_denied : all ≡ false → Called pages harts hart (Reclaim base n) words words frames frames (refused_with InvalidAddress)
       reclaim_denied fails =

@@ -25,7 +25,14 @@ no_fault a b c r range e = grind arith
 pub range_found : (base n pages : ℕ) (range : PageRange) → range_at base n pages ≡ Ok range → RangeFound base n pages range
 range_found base n pages range e =
     let found = no_fault (is_bad_count n) (is_unaligned base) (is_outside base n pages) _ range e in
-    record { count = found.0; aligned = found.1; inside = found.2; fits = ltb-false pages (base / 4096 + n) found.2; first = rw (← found.3); size = rw (← found.3) }
+    record {
+      count = found.0;
+      aligned = found.1;
+      inside = found.2;
+      fits = ltb-false pages (base / 4096 + n) found.2;
+      first = rw (← found.3);
+      size = rw (← found.3);
+    }
 
 -- where a range has a fault, its checks give the fault's status
 pub fault_answers : (a b c : Bool) (range : PageRange) (fault : RangeFault) (rest : List Check) → ◌≡◌ {A = Result PageRange RangeFault} (if a then Err BadCount else if b then Err Unaligned else if c then Err Outside else Ok range) (Err fault) → first_failing (plain a InvalidParam ∷ plain b InvalidAddress ∷ plain c InvalidAddress ∷ rest) ≡ Some (refused_with (fault_status fault))

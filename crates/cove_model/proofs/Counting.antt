@@ -52,7 +52,7 @@ one_line x ls = ap length (cond-true (eqb x.hart.0 x.hart.0) (x ∷ filter (λ l
 lines_at_most : (ls : List ScriptLine) (n : ℕ) → sum_below (lines_below ls) n ≤ length ls
 lines_at_most [] n = let z = zero_sum (lines_below []) n (λ k. refl) in omega arith
 lines_at_most (x ∷ ls) n = ⊎_elim
-    (λ lt. omega (arith, lines_at_most ls n, sum_changed (lines_below ls) (lines_below (x ∷ ls)) x.hart.0 n lt (λ k ne. more_lines x ls k (λ q. ne (sym q))), one_line x ls))
+    (λ lt. omega (arith, lines_at_most ls n, one_line x ls, sum_changed (lines_below ls) (lines_below (x ∷ ls)) x.hart.0 n lt (λ k ne. more_lines x ls k (λ q. ne (sym q)))))
     (λ le. omega (arith, lines_at_most ls n, sum_same (lines_below ls) (lines_below (x ∷ ls)) n (λ k lt. more_lines x ls k (λ q. omega arith))))
     (cases_lt x.hart.0 n)
 

@@ -43,7 +43,8 @@ global_fence_keeps_frames frames S hart old =
     let others = without hart (harts_below S.harts) in
     record {
       count = old.count ∙ sym (length-map S.pages (fenced hart others));
-      frame = λ p within. rw (page_map (fenced hart others) refl S.pages p) (fenced_frame (get_or frames p []) hart others (page_at S.pages p) (old.frame p within));
+      frame = λ p within. rw (page_map (fenced hart others) refl S.pages p)
+          (fenced_frame (get_or frames p []) hart others (page_at S.pages p) (old.frame p within));
     }
 
 pub local_fence_keeps_frames : LocalFenceKeepsFrames
@@ -79,7 +80,8 @@ reclaim_zeroes_frames frames S hart base n all old =
           elim (run_cases first n p) [
             | inl run ↦
                 let inside : p < length S.pages = omega (arith, old.count) in
-                rw (zeroed_inside frames first n p run.0 run.1 on, change_inside reclaimed first n S.pages p run.0 run.1 inside, free_page (page_at S.pages p) (every_at _ first n S.pages all p run.0 run.1 inside))
+                let free = free_page (page_at S.pages p) (every_at _ first n S.pages all p run.0 run.1 inside) in
+                rw (zeroed_inside frames first n p run.0 run.1 on, change_inside reclaimed first n S.pages p run.0 run.1 inside, free)
             | inr out ↦ rw (zeroed_outside frames first n p out, change_outside reclaimed first n S.pages p out) (old.frame p on)
           ];
     }

@@ -76,9 +76,11 @@ same_if number (Err kind) next other fault goes_on e = e
 -- a fault of lines up to the line `end` is the fault of the lines that go on after it
 same_fault : (R : Reading) (number : ℕ) (before more : List (List ℕ)) (last : List ℕ) (fault : ScriptFault) → is_end_line last ≡ true → lines_read R number (before ++ last ∷ []) ≡ Err fault → lines_read R number ((before ++ last ∷ []) ++ more) ≡ Err fault
 same_fault R number [] more last fault is e =
-    same_if number (line_read R last) (λ S. lines_read S (number + 1) []) (λ S. lines_read S (number + 1) more) fault (λ S at f. absurd (let g = rw (end_line_ends R S last is at) at f in cc)) e
+    same_if number (line_read R last) (λ S. lines_read S (number + 1) []) (λ S. lines_read S (number + 1) more) fault
+    (λ S at f. absurd (let g = rw (end_line_ends R S last is at) at f in cc)) e
 same_fault R number (line ∷ before) more last fault is e =
-    same_if number (line_read R line) (λ S. lines_read S (number + 1) (before ++ last ∷ [])) (λ S. lines_read S (number + 1) ((before ++ last ∷ []) ++ more)) fault (λ S at f. same_fault S (number + 1) before more last fault is f) e
+    same_if number (line_read R line) (λ S. lines_read S (number + 1) (before ++ last ∷ [])) (λ S. lines_read S (number + 1) ((before ++ last ∷ []) ++ more)) fault
+    (λ S at f. same_fault S (number + 1) before more last fault is f) e
 
 -- the lines up to the first line `end`, after lines without it
 front_lines-append : (before more : List (List ℕ)) → list_all (λ line. not (is_end_line line)) before ≡ true → front_lines (before ++ more) ≡ before ++ front_lines more
@@ -108,7 +110,9 @@ cut : (piece before rest : List ℕ) → (lines_from piece (before ++ 10 ∷ res
 cut piece [] rest = (refl, omega (arith, size-cons piece []))
 cut piece (byte ∷ before) rest =
     elim (cases_Bool (is_line_end byte)) [
-      | inl ends ↦ rw ends (let more = cut [] before rest in (ap (λ (ls : List (List ℕ)). piece ∷ ls) more.0, omega (arith, more.1, size-cons piece (lines_from [] (before ++ 10 ∷ [])))))
+      | inl ends ↦ rw ends (
+          let more = cut [] before rest in
+          (ap (λ (ls : List (List ℕ)). piece ∷ ls) more.0, omega (arith, more.1, size-cons piece (lines_from [] (before ++ 10 ∷ [])))))
       | inr goes_on ↦ rw goes_on (let more = cut (piece ++ byte ∷ []) before rest in (more.0, omega (arith, more.1, length-append piece (byte ∷ []))))
     ]
 
@@ -147,7 +151,9 @@ find_front (byte ∷ piece) [] =
 find_front piece (byte ∷ bytes) =
     elim (cases_Bool (is_line_end byte)) [
       | inl ends ↦ elim (cases_Bool (is_end_line piece)) [
-        | inl is ↦ inr (record { place = 1; after_line = inr ([], bytes, ap (λ (b : ℕ). b ∷ bytes) (eqb-true byte 10 ends), refl); up_to_end = rw ends (one_line piece is) })
+        | inl is ↦
+            let feed = ap (λ (b : ℕ). b ∷ bytes) (eqb-true byte 10 ends) in
+            inr (record { place = 1; after_line = inr ([], bytes, feed, refl); up_to_end = rw ends (one_line piece is) })
         | inr other ↦ elim (find_front [] bytes) [
           | inl none ↦ inl (rw ends (and_from _ _ (ap not other) none))
           | inr has ↦ inr (record { place = suc has.place; after_line = longer byte bytes has.place has.after_line; up_to_end = rw ends (one_more piece _ other has.up_to_end) })
@@ -207,7 +213,9 @@ is_front limit text script place e =
     let q = placed (front_size text) place (script_of limit (take (front_size text) text)) script p.1 in
     let short : length text ≤ limit = ltb-false limit (length text) p.0 in
     elim (front_cases text) [
-      | inl all ↦ absurd (no_script_without_end opening_reading 1 (text_lines text) script refl all.1 (sym (script_of-short limit text short) ∙ (rw all.0 at q.0)))
+      | inl all ↦
+          let read = sym (script_of-short limit text short) ∙ (rw all.0 at q.0) in
+          absurd (no_script_without_end opening_reading 1 (text_lines text) script refl all.1 read)
       | inr is ↦ subst (IsFront limit text script) q.1 (record { short = short; after_line = is.0; up_to_end = is.1; spells = q.0 })
     ]
 
@@ -236,7 +244,8 @@ in_front limit text fault short r =
           let u = is.1 in
           let a = apart text (front_size text) is.0 in
           let few : length (take (front_size text) text) ≤ limit = omega (arith, length-take (front_size text) text) in
-          rw (script_of-short limit text short, a.1, u.lines_are) (same_fault opening_reading 1 u.before a.0 u.last fault u.ends (rw (script_of-short limit _ few, u.lines_are) at r))
+          let read = rw (script_of-short limit _ few, u.lines_are) at r in
+          rw (script_of-short limit text short, a.1, u.lines_are) (same_fault opening_reading 1 u.before a.0 u.last fault u.ends read)
     ]
 
 pub fault_in_front : (limit : ℕ) (text : List ℕ) (fault : ScriptFault) → front_of limit text ≡ Err fault → script_of limit text ≡ Err fault
@@ -247,5 +256,6 @@ fault_in_front limit text fault e =
           let f = rw (lt-ltb limit (length text) long) at e in
           let same : fault_at 0 TooLong ≡ fault = cc in
           rw (lt-ltb limit (length text) long, same)
-      | inr short ↦ in_front limit text fault short (refused (front_size text) (script_of limit (take (front_size text) text)) fault (rw (le-ltb limit (length text) short) at e))
+      | inr short ↦ in_front limit text fault short
+          (refused (front_size text) (script_of limit (take (front_size text) text)) fault (rw (le-ltb limit (length text) short) at e))
     ]

@@ -114,7 +114,15 @@ with_line R hart (Some line) s small e =
 keeps_after : (R S : Reading) (content : Content) → IsSound R → R.phase < 2 ^ 20 → IsAccepted R content S → Keeps R (reading_after R content)
 keeps_after R S (BoardLine (x ∷ y ∷ z ∷ more)) s small a =
     let empty = s.fresh a.known in
-    let tests : Tests (reading_after R (BoardLine (x ∷ y ∷ z ∷ more))).script = record { board = not-false _ a.within; fills = rw empty.0 refl; lines = rw empty.1 refl; turns = rw empty.2 refl; some_key = s.tests.some_key; few_key = s.tests.few_key; phases = s.tests.phases } in
+    let tests : Tests (reading_after R (BoardLine (x ∷ y ∷ z ∷ more))).script = record {
+      board = not-false _ a.within;
+      fills = rw empty.0 refl;
+      lines = rw empty.1 refl;
+      turns = rw empty.2 refl;
+      some_key = s.tests.some_key;
+      few_key = s.tests.few_key;
+      phases = s.tests.phases;
+    } in
     record { sound = record { tests = tests; past = s.past; fresh = λ e. empty }; phase = omega arith }
 keeps_after R S (BoardLine few) s small a = absurd (let e = a.within in cc)
 keeps_after R S (KeyLine (hex ∷ more)) s small a =

@@ -27,11 +27,13 @@ convert_is_lawful pages harts tables words hart base n inside free =
 reclaims : (pages harts : ℕ) (tables : ℕ → Tables) (hart : ℕ) (old : List ℕ) (first n : ℕ) (now : List ℕ) → first + n ≤ pages → ((p : ℕ) → first ≤ p → p < first + n → IsFreeIn pages harts now p) → AllAllowed (IsLawful pages harts tables hart old) now (fills first n (host 0))
 reclaims pages harts tables hart old first zero now inside free = tt
 reclaims pages harts tables hart old first (suc n) now inside free =
-    let numbers : answered_in pages now ≡ answered_in pages (set now first (host 0)) = fun_ext (λ k. sym (get_or-set_other now first (answered_word pages k) (host 0) 0 (omega arith))) in (
+    let numbers : answered_in pages now ≡ answered_in pages (set now first (host 0)) =
+    fun_ext (λ k. sym (get_or-set_other now first (answered_word pages k) (host 0) 0 (omega arith))) in (
       Frees first (omega arith) refl (free first (omega arith) (omega arith)) (inl refl),
       reclaims pages harts tables hart old (first + 1) n (set now first (host 0)) (omega arith)
           (λ p low high.
-          subst (λ a. FreeStands harts a (get_or (set now first (host 0)) p 0)) numbers (rw (get_or-set_other now first p (host 0) 0 (omega arith)) (free p (omega arith) (omega arith)))),
+          subst (λ a. FreeStands harts a (get_or (set now first (host 0)) p 0)) numbers
+          (rw (get_or-set_other now first p (host 0) 0 (omega arith)) (free p (omega arith) (omega arith)))),
     )
 
 pub reclaim_is_lawful : ReclaimIsLawful

@@ -51,7 +51,8 @@ converted_page harts epoch numbers maps some within words = record {
 pub fenced_page : (harts hart epoch : ℕ) (before after : ℕ → ℕ) → hart < harts → ((k : ℕ) → k < harts → before k ≡ epoch) → after hart ≡ epoch + 1 → ((k : ℕ) → k ≢ hart → after k ≡ before k) → (maps word : ℕ) (owner : Owner) → PageStands harts epoch before maps word owner → PageStands harts (epoch + 1) after maps word (fenced hart (without hart (harts_below harts)) owner)
 fenced_page harts hart epoch before after on all own others maps word (Converting held None words) stands =
     let since : stands.since ≡ epoch = omega (arith, stands.begun, stands.waits) in
-    settles harts (epoch + 1) after maps word (without hart held) (without hart (harts_below harts)) words stands.since stands.is (omega arith) (holds_without harts hart before after held stands.since others stands.holds)
+    settles harts (epoch + 1) after maps word (without hart held) (without hart (harts_below harts)) words stands.since stands.is (omega arith)
+    (holds_without harts hart before after held stands.since others stands.holds)
     (others_behind harts hart after (stands.since + 1) (omega arith) (λ k within ne. omega (arith, others k ne, all k within)))
 fenced_page harts hart epoch before after on all own others maps word (Converting held (Some waiting) words) stands =
     absurd (omega (arith, all stands.pending.0 stands.pending.1, stands.pending.2, stands.waits.0))

@@ -67,7 +67,8 @@ pub every_from : (t : Owner → Bool) (first n : ℕ) (pages : List Owner) → (
 every_from t first n pages each =
     list_all-from_AllPass t (take n (drop first pages)) (λ k d below.
     let long : (k < n) × (first + k < length pages) = omega (arith, length-take n (drop first pages), length-drop first pages) in
-    rw (get_or-take n (drop first pages) k d long.0, get_or-drop first pages k d, get_or_default pages (first + k) d Free long.1) (each (first + k) (omega arith) (omega arith) long.1))
+    rw (get_or-take n (drop first pages) k d long.0, get_or-drop first pages k d, get_or_default pages (first + k) d Free long.1)
+    (each (first + k) (omega arith) (omega arith) long.1))
 
 -- ---- the opening pages
 

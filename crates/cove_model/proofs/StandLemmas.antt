@@ -36,7 +36,8 @@ set_cases words place word other inside = elim (cases_eq other place) [
 pub filled_stand : (pages harts : ℕ) (words : List ℕ) (S : State) (how : Owner → Owner) (first n word : ℕ) → first + n ≤ pages → ((o : Owner) → is_table (how o) ≡ false → is_table o ≡ false) → ((p : ℕ) → first ≤ p → p < first + n → p < pages → PageStands harts (epoch_in pages words) (answered_in pages words) (maps_of S p) word (how (page_at S.pages p))) → Stand pages harts words S → Stand pages harts (stored words (fills first n word)) (record S { pages = change how first n S.pages })
 filled_stand pages harts words S how first n word inside tables each stand =
     let words' : List ℕ = stored words (fills first n word) in
-    let behind : (place : ℕ) → pages ≤ place → get_or words' place 0 ≡ get_or words place 0 = λ place past. get_or-fills_other words first n word place (inr (omega arith)) in
+    let behind : (place : ℕ) → pages ≤ place → get_or words' place 0 ≡ get_or words place 0 =
+    λ place past. get_or-fills_other words first n word place (inr (omega arith)) in
     let epoch : epoch_in pages words' ≡ epoch_in pages words = behind (epoch_word pages) (omega arith) in
     let numbers : answered_in pages words' ≡ answered_in pages words = fun_ext (λ hart. behind (answered_word pages hart) (omega arith)) in
     let old = stand.stands in
@@ -49,8 +50,10 @@ filled_stand pages harts words S how first n word inside tables each stand =
           page_count = length_change how first n S.pages ∙ long;
           hart_count = old.owners.hart_count;
           page = λ p within. elim (run_cases first n p) [
-            | inl run ↦ page_moves harts _ _ _ _ (maps_of S p) _ _ _ _ epoch numbers (get_or-fills words first n word p run.0 run.1 (omega arith)) (change_inside how first n S.pages p run.0 run.1 (omega arith)) (each p run.0 run.1 within)
-            | inr out ↦ page_moves harts _ _ _ _ (maps_of S p) _ _ _ _ epoch numbers (get_or-fills_other words first n word p out) (change_outside how first n S.pages p out) (old.owners.page p within)
+            | inl run ↦ page_moves harts _ _ _ _ (maps_of S p) _ _ _ _ epoch numbers (get_or-fills words first n word p run.0 run.1 (omega arith))
+                (change_inside how first n S.pages p run.0 run.1 (omega arith)) (each p run.0 run.1 within)
+            | inr out ↦ page_moves harts _ _ _ _ (maps_of S p) _ _ _ _ epoch numbers (get_or-fills_other words first n word p out)
+                (change_outside how first n S.pages p out) (old.owners.page p within)
           ];
           unanswered = old.owners.unanswered ∙ sym (ap (λ a. harts_behind harts a (epoch_in pages words')) numbers ∙ ap (λ e. harts_behind harts (answered_in pages words) e) epoch);
         };
@@ -71,10 +74,12 @@ answered_stand pages harts hart words words' S how unanswered on long others fre
   owners = record {
     page_count = length-map S.pages how ∙ old.owners.page_count;
     hart_count = old.owners.hart_count;
-    page = λ p within. page_moves harts _ _ _ _ (maps_of S p) _ _ _ _ refl refl (others p (omega arith) (omega arith)) (page_map how free S.pages p) (each (maps_of S p) (get_or words p 0) (page_at S.pages p) (old.owners.page p within));
+    page = λ p within. page_moves harts _ _ _ _ (maps_of S p) _ _ _ _ refl refl (others p (omega arith) (omega arith)) (page_map how free S.pages p)
+        (each (maps_of S p) (get_or words p 0) (page_at S.pages p) (old.owners.page p within));
     unanswered = behind;
   };
-  tables = λ p i within small e. others (table_word pages p i) (omega arith) (omega arith) ∙ old.tables p i within small (tables (page_at S.pages p) (sym (ap is_table (page_map how free S.pages p)) ∙ e));
+  tables = λ p i within small e. others (table_word pages p i) (omega arith) (omega arith)
+      ∙ old.tables p i within small (tables (page_at S.pages p) (sym (ap is_table (page_map how free S.pages p)) ∙ e));
   unused = others (tvm_word pages harts 0) (omega arith) (omega arith) ∙ old.unused;
   outside = λ k within. others (hart_word pages harts k) (omega arith) (omega arith) ∙ old.outside k within;
 }

@@ -16,7 +16,8 @@ use Rattle.cove_model.proofs.StandLemmas.{host_page, free_page, filled_stand, an
 pub convert_stands : ConvertStands
 convert_stands pages harts words S hart base n some inside all stand =
     let owners = stand.stands.owners in
-    filled_stand pages harts words S (converted (harts_below S.harts)) (base / 4096) n (converting (epoch_in pages words)) inside (λ o e. grind arith) (λ p low high within.
+    filled_stand pages harts words S (converted (harts_below S.harts)) (base / 4096) n (converting (epoch_in pages words)) inside (λ o e. grind arith)
+    (λ p low high within.
     let was = host_page (page_at S.pages p) (every_at _ (base / 4096) n S.pages all p low high (omega (arith, owners.page_count))) in
     rw (was.1, owners.hart_count) (converted_page harts (epoch_in pages words) (answered_in pages words) (maps_of S p) some stand.within was.0)) stand
 
@@ -31,6 +32,7 @@ global_fence_stands pages harts words S hart on answers stand =
     let count = stand.stands.owners.hart_count in
     let epoch = epoch_in pages words in
     let before = answered_in pages words in
+    let others_of = without hart (harts_below S.harts) in
     let once : List ℕ = set words (epoch_word pages) (epoch + 1) in
     let words' : List ℕ = set once (answered_word pages hart) (epoch + 1) in
     let after = answered_in pages words' in
@@ -42,7 +44,7 @@ global_fence_stands pages harts words S hart on answers stand =
     let others : (k : ℕ) → k ≢ hart → after k ≡ before k = λ k ne. kept (answered_word pages k) (omega arith) (omega arith) in
     let all : (k : ℕ) → k < harts → before k ≡ epoch = λ k within. omega (arith, stand.within k within, answers k within) in
     record {
-      stands = answered_stand pages harts hart words words' S (fenced hart (without hart (harts_below S.harts))) (without hart (harts_below S.harts)) on (length-set once (answered_word pages hart) (epoch + 1) ∙ long) kept refl (λ o e. grind arith)
+      stands = answered_stand pages harts hart words words' S (fenced hart others_of) others_of on (length-set once (answered_word pages hart) (epoch + 1) ∙ long) kept refl (λ o e. grind arith)
           (λ maps word o h. rw (new, count) (fenced_page harts hart epoch before after on all own others maps word o h))
           (rw (new, count) (others_behind harts hart after (epoch + 1) (omega arith) (λ k within ne. omega (arith, others k ne, all k within)))) stand.stands;
       within = λ k within. elim (cases_eq k hart) [
@@ -64,7 +66,8 @@ local_fence_stands pages harts words S hart on stand =
     let own : after hart ≡ epoch = get_or-set_same words (answered_word pages hart) epoch 0 (omega arith) in
     let others : (k : ℕ) → k ≢ hart → after k ≡ before k = λ k ne. kept (answered_word pages k) (omega arith) (omega arith) in
     record {
-      stands = answered_stand pages harts hart words words' S (fence_answered hart) (without hart S.unanswered) on (length-set words (answered_word pages hart) epoch) kept refl (λ o e. grind arith)
+      stands = answered_stand pages harts hart words words' S (fence_answered hart) (without hart S.unanswered) on
+          (length-set words (answered_word pages hart) epoch) kept refl (λ o e. grind arith)
           (λ maps word o h. rw same (answered_page harts hart epoch before after on stand.within own others maps word o h))
           (rw (stand.stands.owners.unanswered, same) (without-behind harts hart before after epoch (omega arith) others)) stand.stands;
       within = λ k within. elim (cases_eq k hart) [

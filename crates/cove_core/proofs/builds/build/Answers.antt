@@ -6,10 +6,12 @@ use Rattle.cove_core.proofs.Building.{built_fresh}
 use Rattle.cove_core.proofs.builds.build.Goals as goal
 
 pub all_words-requires-clause-pages : goal.all_words-requires-clause-pages
-all_words-requires-clause-pages c = omega (arith, (limits_of c.args.script.now c.within_limits.ensures).few_pages, ap (λ (s : ScriptValue). s.pages) c.script.view_is)
+all_words-requires-clause-pages c =
+    omega (arith, (limits_of c.args.script.now c.within_limits.ensures).few_pages, ap (λ (s : ScriptValue). s.pages) c.script.view_is)
 
 pub all_words-requires-clause-harts : goal.all_words-requires-clause-harts
-all_words-requires-clause-harts c = omega (arith, (limits_of c.args.script.now c.within_limits.ensures).few_harts, ap (λ (s : ScriptValue). s.harts) c.script.view_is)
+all_words-requires-clause-harts c =
+    omega (arith, (limits_of c.args.script.now c.within_limits.ensures).few_harts, ap (λ (s : ScriptValue). s.harts) c.script.view_is)
 
 pub returns-clause-fresh : goal.returns-clause-fresh
 returns-clause-fresh c =

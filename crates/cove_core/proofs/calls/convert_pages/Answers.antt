@@ -28,18 +28,21 @@ pub set_all-requires-clause-allowed : goal.set_all-requires-clause-allowed
 set_all-requires-clause-allowed g c =
     let none = rw c.all_host.ensures.unchanged.words at (iff_false c.any_mapped.ensures.any c.if-any_mapped.false) in
     rw (c.current-since.ensures.unchanged.guard, c.any_mapped.ensures.unchanged.guard, c.all_host.ensures.unchanged.guard)
-    (rw (c.current-since.ensures.value, c.epochs.ensures.first, c.current-since.ensures.unchanged.words, c.any_mapped.ensures.unchanged.words, c.all_host.ensures.unchanged.words)
+    (rw (c.current-since.ensures.value, c.epochs.ensures.first)
+    (rw (c.current-since.ensures.unchanged.words, c.any_mapped.ensures.unchanged.words, c.all_host.ensures.unchanged.words)
     (AllAllowed-weaker _ _ _ _ c.requires.allowed
-    (convert_lawful _ _ _ _ _ c.requires.ready c.args.base c.args.n c.in-Ok.range (sym c.in-Ok.ensures) _ c.all_host.ensures.all c.if-not-all_host.false none)))
+    (convert_lawful _ _ _ _ _ c.requires.ready c.args.base c.args.n c.in-Ok.range (sym c.in-Ok.ensures) _ c.all_host.ensures.all c.if-not-all_host.false none))))
 
 pub returns-clause-called : goal.returns-clause-called
 returns-clause-called g c =
     let none = rw c.all_host.ensures.unchanged.words at (iff_false c.any_mapped.ensures.any c.if-any_mapped.false) in
     rw (c.success.ensures, c.set_all.ensures.words)
-    (rw (c.current-since.ensures.value, c.epochs.ensures.first, c.current-since.ensures.unchanged.words, c.any_mapped.ensures.unchanged.words, c.all_host.ensures.unchanged.words)
-    (convert_accepted _ _ _ _ _ c.requires.ready c.args.base c.args.n c.in-Ok.range (sym c.in-Ok.ensures) _ c.all_host.ensures.all c.if-not-all_host.false none))
+    (rw (c.current-since.ensures.value, c.epochs.ensures.first)
+    (rw (c.current-since.ensures.unchanged.words, c.any_mapped.ensures.unchanged.words, c.all_host.ensures.unchanged.words)
+    (convert_accepted _ _ _ _ _ c.requires.ready c.args.base c.args.n c.in-Ok.range (sym c.in-Ok.ensures) _ c.all_host.ensures.all c.if-not-all_host.false none)))
 
 pub returns-in-Err-clause-called : goal.returns-in-Err-clause-called
 returns-in-Err-clause-called g c =
     rw (c.refused.ensures, c.status_of.ensures)
-    (range_faults _ _ _ _ _ c.requires.ready c.args.base c.args.n _ (λ S. AllHost S c.args.base c.args.n ∷ NoneShared S c.args.base c.args.n ∷ []) (λ S. refl) c.in-Err.fault (sym c.in-Err.ensures))
+    (range_faults _ _ _ _ _ c.requires.ready c.args.base c.args.n _
+    (λ S. AllHost S c.args.base c.args.n ∷ NoneShared S c.args.base c.args.n ∷ []) (λ S. refl) c.in-Err.fault (sym c.in-Err.ensures))

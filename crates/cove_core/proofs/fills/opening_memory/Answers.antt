@@ -15,7 +15,8 @@ loop-fill-init c = record {
 pub put_fill-requires-clause-within : goal.put_fill-requires-clause-within
 put_fill-requires-clause-within c =
     let same = c.as_slice-fill-items.ensures ∙ ap (λ (s : ScriptValue). s.fills) c.script.view_is in
-    rw c.loop-fill.invariant.size (fill_within c.args.script.now c.within_limits.ensures c.loop-fill.fill-index _ (rw same at c.loop-fill-test.true) (rw same at c.fill-item.is))
+    rw c.loop-fill.invariant.size
+    (fill_within c.args.script.now c.within_limits.ensures c.loop-fill.fill-index _ (rw same at c.loop-fill-test.true) (rw same at c.fill-item.is))
 
 pub put_fill-requires-clause-limit : goal.put_fill-requires-clause-limit
 put_fill-requires-clause-limit c = omega (arith, (limits_of c.args.script.now c.within_limits.ensures).few_pages, c.loop-fill.invariant.size)

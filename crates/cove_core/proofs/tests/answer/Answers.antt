@@ -5,7 +5,8 @@ use Rattle.cove_core.proofs.tests.answer.Goals as goal
 
 pub call-requires-clause-ready : goal.call-requires-clause-ready
 call-requires-clause-ready c =
-    rw (c.requires.board.0, c.requires.board.1) (stands_ready 16 2 _ _ _ c.requires.stands.0 (omega arith) (omega arith) c.hart_of.ensures c.requires.room c.requires.stands.1 c.requires.stands.2)
+    rw (c.requires.board.0, c.requires.board.1)
+    (stands_ready 16 2 _ _ _ c.requires.stands.0 (omega arith) (omega arith) c.hart_of.ensures c.requires.room c.requires.stands.1 c.requires.stands.2)
 
 pub returns-clause-stands : goal.returns-clause-stands
 returns-clause-stands c =
