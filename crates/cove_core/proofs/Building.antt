@@ -1,5 +1,5 @@
 -- What was taken for a run is fresh.
-use Rattle.std.proofs.Common.{◌≡◌, ℕ, ◌<◌, List, [], Option, None, IfSome, inl, inr, replicate, slice_get, subst, sym, ap, arith, refl}
+use Rattle.std.proofs.Common.{◌≡◌, ℕ, ◌<◌, List, [], None, IfSome, inl, inr, replicate, slice_get, ap, arith, refl}
 use Rattle.std.proofs.lemmas.Bool.{cases_lt}
 use Rattle.std.proofs.lemmas.Option.{IfSome_then, slice_get_past}
 use Rattle.cove_base.specs.HartValues.{HartValue}
@@ -7,13 +7,11 @@ use Rattle.cove_base.specs.Places.{all_words}
 use Rattle.cove_base.specs.Scripts.{ScriptValue}
 use Rattle.cove_base.specs.declared.events.Entry.{Entry}
 use Rattle.cove_core.proofs.Opening.{opening_fits, opening_kept, opening_progress}
-use Rattle.cove_core.specs.Kept.{IsBoard, IsKept}
+use Rattle.cove_core.specs.Kept.{IsBoard}
 use Rattle.cove_core.specs.Plays.{IsFresh, IsSeated}
 use Rattle.cove_core.specs.Seats.{AreNew, AtFirstLines, IsNew}
 use Rattle.cove_core.specs.declared.ground.Ground.{Ground}
-use Rattle.cove_hart.specs.HartStates.{hart_value}
 use Rattle.cove_hart.specs.declared.states.HartState.{HartState}
-use Rattle.cove_model.specs.Fits.{Fits}
 use Rattle.cove_model.specs.States.{opening}
 use Rattle.cove_model.specs.WordsStand.{FramesStand}
 
@@ -21,14 +19,13 @@ use Rattle.cove_model.specs.WordsStand.{FramesStand}
 new_seated : (script : ScriptValue) (history : List Entry) (k : ℕ) (hart : HartState) → history ≡ [] → k < script.harts → IsNew script k hart → IsSeated script history k hart
 new_seated script history k hart unplayed below new = record {
   is = ap (λ (held : HartValue). held.hart) new.fresh;
-  fits = subst (λ h. Fits script h (hart_value hart)) (sym unplayed)
-      (subst (Fits script []) (sym new.fresh) (opening_fits script k hart.place below new.place));
+  fits = rw (unplayed, new.fresh) (opening_fits script k hart.place below new.place);
 }
 
 new_unwalked : (script : ScriptValue) (harts : List HartState) → AreNew script script.harts harts → (k : ℕ) → IfSome (slice_get harts k) (λ hart. hart.walked ≡ None)
 new_unwalked script harts new k = elim (cases_lt k script.harts) [
   | inl below ↦ IfSome_then (slice_get harts k) (new.1 k below) (λ hart is. ap (λ (held : HartValue). held.walked) is.fresh)
-  | inr past ↦ subst (λ (seat : Option HartState). IfSome seat (λ hart. hart.walked ≡ None)) (sym (slice_get_past harts k (omega (arith, new.0)))) tt
+  | inr past ↦ rw (slice_get_past harts k (omega (arith, new.0))) tt
 ]
 
 pub built_fresh :
@@ -37,11 +34,9 @@ pub built_fresh :
     → words ≡ replicate (all_words script.pages script.harts) 0 → AreNew script script.harts harts
     → IsFresh script (record { mon = record { ground = ground; history = history; progress = places }; words = words; harts = harts; rounds_made = 0 })
 built_fresh script ground history places words harts board frames unplayed first zeros new =
-    let kept = opening_kept script ground places board frames (opening_progress script places first.0 first.1) in
     record {
       ready = record {
-        kept = subst (λ ws. IsKept script ws (record { ground = ground; history = history; progress = places })) (sym zeros)
-            (subst (λ h. IsKept script (replicate (all_words script.pages script.harts) 0) (record { ground = ground; history = h; progress = places })) (sym unplayed) kept);
+        kept = rw (zeros, unplayed) (opening_kept script ground places board frames (opening_progress script places first.0 first.1));
         count = new.0;
         seated = λ k below. IfSome_then (slice_get harts k) (new.1 k below) (λ hart is. new_seated script history k hart unplayed below is);
       };

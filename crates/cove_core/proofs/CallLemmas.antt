@@ -1,19 +1,18 @@
 -- What refused and accepted calls leave.
-use Rattle.std.proofs.Common.{◌≡◌, ℕ, ◌+◌, ◌≤◌, List, [], ◌∷◌, not, false, get_or, Option, Some, None, unwrap_or, refl, sym, ap, subst, ◌∙◌, arith}
-use Rattle.cove_base.proofs.StoreLemmas.{length-stored, AllAllowed-weaker}
-use Rattle.cove_base.specs.Guards.{Guard}
+use Rattle.std.proofs.Common.{◌≡◌, ℕ, ◌+◌, ◌≤◌, List, [], ◌∷◌, not, false, get_or, Some, None, refl, sym, ap, subst, arith}
+use Rattle.cove_base.proofs.StoreLemmas.{length-stored}
 use Rattle.cove_base.specs.Places.{count_word}
 use Rattle.cove_base.specs.Stores.{stored, AllAllowed}
 use Rattle.cove_base.specs.declared.calls.HostCall.{HostCall}
 use Rattle.cove_base.specs.declared.calls.HostCall.TheVariants.{Info}
 use Rattle.cove_base.specs.declared.statuses.Reply.{Reply}
-use Rattle.cove_base.specs.declared.statuses.Status.TheVariants.{NotSupported, Success}
+use Rattle.cove_base.specs.declared.statuses.Status.TheVariants.{NotSupported}
 use Rattle.cove_core.specs.Called.{Called}
 use Rattle.cove_core.specs.Replies.{accepted, refused_with, succeeded}
-use Rattle.cove_model.specs.Answers.{is_built, state_by, effect, value_of, refusal}
+use Rattle.cove_model.specs.Answers.{effect, is_built, refusal, value_of}
 use Rattle.cove_model.specs.HostCalls.{rule}
+use Rattle.cove_model.specs.LawfulStores.{IsLawful, no_tables}
 use Rattle.cove_model.specs.Refusals.{first_failing, plain}
-use Rattle.cove_model.specs.LawfulStores.{IsLawful, AllowsLawful, no_tables}
 use Rattle.cove_model.specs.Sound.{IsSound}
 use Rattle.cove_model.specs.States.{State}
 use Rattle.cove_model.specs.WordLaws.{Stand}
@@ -29,14 +28,7 @@ stays_within pages harts words most within = record {
 -- a call that every state refuses alike changes nothing
 pub refuses : (pages harts hart : ℕ) (call : HostCall) (words : List ℕ) (frames : List (List ℕ)) (reply : Reply) → ((S : State) → Stand pages harts words S → refusal S hart call ≡ Some reply) → Called pages harts hart call words words frames frames reply
 refuses pages harts hart call words frames reply each = record {
-  serves = λ S sound stand memory.
-      let is = each S stand in
-      let success : ℕ → Reply = λ v. record { status = Success; value = v } in
-      let kept : state_by (refusal S hart call) S (effect S hart call) ≡ S = ap (λ (r : Option Reply). state_by r S (effect S hart call)) is in (
-        sym (ap (λ (r : Option Reply). unwrap_or r (success (value_of S hart call))) is),
-        subst (λ s. Stand pages harts words s) (sym kept) stand,
-        subst (λ s. FramesStand frames s) (sym kept) memory,
-      );
+  serves = λ S sound stand memory. rw (each S stand) (refl, stand, memory);
   lawful = ([], tt, refl);
   refused = λ e. (refl, refl);
   fences = stays_within pages harts words;
@@ -69,40 +61,15 @@ pub record Accepts (pages harts hart : ℕ) (call : HostCall) (new : List ℕ) (
   pub memory : FramesStand now (effect S hart call)
 
 -- a call that every state accepts makes its stores
-pub accepts : (pages harts hart : ℕ) (call : HostCall) (words new : List ℕ) (frames now : List (List ℕ)) (ss : List (ℕ × ℕ)) → new ≡ stored words ss → AllAllowed (IsLawful pages harts no_tables hart words) words ss → epoch_in pages (stored words ss) ≤ epoch_in pages words + 1 → ((t : ℕ) → number_in pages harts (stored words ss) t ≡ number_in pages harts words t) → get_or (stored words ss) (count_word pages harts) 0 ≡ get_or words (count_word pages harts) 0 → ((S : State) → IsSound S → Stand pages harts words S → FramesStand frames S → Accepts pages harts hart call (stored words ss) now S) → Called pages harts hart call words new frames now accepted
-accepts pages harts hart call words new frames now ss is lawful epoch numbers count each =
-    let made : Called pages harts hart call words (stored words ss) frames now accepted = record {
-      serves = λ S sound stand memory.
-          let right = each S sound stand memory in
-          let success : ℕ → Reply = λ v. record { status = Success; value = v } in
-          let moved : state_by (refusal S hart call) S (effect S hart call) ≡ effect S hart call = ap (λ (r : Option Reply). state_by r S (effect S hart call)) right.none in (
-            sym (ap (λ (r : Option Reply). unwrap_or r (success (value_of S hart call))) right.none ∙ ap success right.value),
-            subst (λ s. Stand pages harts (stored words ss) s) (sym moved) right.stands,
-            subst (λ s. FramesStand now s) (sym moved) right.memory,
-          );
-      lawful = (ss, lawful, refl);
-      refused = λ e. absurd cc;
-      fences = λ most within. record {
-        epoch = let was = within.epoch in omega arith;
-        numbers = λ t low high.
-            let was : number_in pages harts words t ≤ most = within.numbers t low high in
-            let same : number_in pages harts (stored words ss) t ≡ number_in pages harts words t = numbers t in
-            omega arith;
-      };
-      count = count;
-      size = length-stored words ss;
-    } in
-    subst (λ ws. Called pages harts hart call words ws frames now accepted) (sym is) made
-
--- words that are lent allow stores that are lawful, under the same guard and on the same words
-pub lawful_allowed : (allows : Option Guard → List ℕ → ℕ → ℕ → Type 0) (guard guard' : Option Guard) (pages harts hart : ℕ) (words words' : List ℕ) (ss : List (ℕ × ℕ)) → AllowsLawful (allows guard) pages harts no_tables hart words → guard' ≡ guard → words' ≡ words → AllAllowed (IsLawful pages harts no_tables hart words) words ss → AllAllowed (allows guard') words' ss
-lawful_allowed allows guard guard' pages harts hart words words' ss lent same kept lawful =
-    subst (λ x. AllAllowed (allows x) words' ss) (sym same)
-    (subst (λ ws. AllAllowed (allows guard) ws ss) (sym kept)
-    (AllAllowed-weaker (IsLawful pages harts no_tables hart words) (allows guard) words ss lent lawful))
-
--- the same answer, by equal words and an equal reply
-pub same_answer : (pages harts hart : ℕ) (call : HostCall) (old new new' : List ℕ) (before now : List (List ℕ)) (reply reply' : Reply) → new' ≡ new → reply' ≡ reply → Called pages harts hart call old new before now reply → Called pages harts hart call old new' before now reply'
-same_answer pages harts hart call old new new' before now reply reply' words is called =
-    subst (λ ws. Called pages harts hart call old ws before now reply') (sym words)
-    (subst (λ (r : Reply). Called pages harts hart call old new before now r) (sym is) called)
+pub accepts : (pages harts hart : ℕ) (call : HostCall) (words : List ℕ) (frames now : List (List ℕ)) (ss : List (ℕ × ℕ)) → AllAllowed (IsLawful pages harts no_tables hart words) words ss → epoch_in pages (stored words ss) ≤ epoch_in pages words + 1 → ((t : ℕ) → number_in pages harts (stored words ss) t ≡ number_in pages harts words t) → get_or (stored words ss) (count_word pages harts) 0 ≡ get_or words (count_word pages harts) 0 → ((S : State) → IsSound S → Stand pages harts words S → FramesStand frames S → Accepts pages harts hart call (stored words ss) now S) → Called pages harts hart call words (stored words ss) frames now accepted
+accepts pages harts hart call words frames now ss lawful epoch numbers count each = record {
+  serves = λ S sound stand memory. let right = each S sound stand memory in rw right.none (rw right.value refl, right.stands, right.memory);
+  lawful = (ss, lawful, refl);
+  refused = λ e. absurd cc;
+  fences = λ most within. record {
+    epoch = let was = within.epoch in omega arith;
+    numbers = λ t low high. rw (numbers t) ((stays_within pages harts words most within).numbers t low high);
+  };
+  count = count;
+  size = length-stored words ss;
+}

@@ -1,6 +1,6 @@
 -- No ring names a page that an entry gave to another.
-use Rattle.std.proofs.Common.{◌≡◌, ◌≢◌, ◌<◌, ℕ, Bool, true, false, ◌||◌, List, [], ◌∷◌, ◌++◌, Option, None, Some, IsSome, refl, sym, subst, ap, ◌∙◌, ⊎_elim}
-use Rattle.std.proofs.lemmas.Bool.{false≢true}
+use Rattle.std.proofs.Common.{◌≡◌, ◌≢◌, ◌<◌, ℕ, false, List, [], ◌∷◌, ◌++◌, Option, None, Some, IsSome, refl, sym, subst, ap, ◌∙◌, ⊎_elim}
+use Rattle.std.proofs.lemmas.Bool.{false≢true, or_parts}
 use Rattle.cove_base.proofs.ScriptLimits.{Limits}
 use Rattle.cove_base.specs.HartValues.{HartRings, HartValue}
 use Rattle.cove_base.specs.Rings.{found}
@@ -22,10 +22,6 @@ use Rattle.cove_model.specs.Histories.{Legal, after}
 use Rattle.cove_model.specs.Owners.{has, holder, page_at}
 use Rattle.cove_model.specs.Translations.{Tlb, tlb}
 
-first_false : (a b c : Bool) → (a || b || c) ≡ false → a ≡ false
-first_false true b c e = absurd (false≢true (sym e))
-first_false false b c e = refl
-
 not_some : (o : Option Page) → (IsSome o → ⊥) → o ≡ None
 not_some None never = refl
 not_some (Some page) never = absurd (never refl)
@@ -33,8 +29,7 @@ not_some (Some page) never = absurd (never refl)
 module _ (script : ScriptValue) (limits : Limits script) (H : List Entry) (e : Entry) (legal : Legal script (H ++ e ∷ [])) where
   unnamed : (p h : ℕ) → holder (page_at (after script (H ++ e ∷ [])).pages p) ≢ holder (page_at (after script H).pages p) → has p (tlb script (H ++ e ∷ []) h).pages ≡ false
   unnamed p h moved =
-      first_false (has p (tlb script (H ++ e ∷ []) h).pages) _ _
-      (each_last (IsQuietAt script) [] H e (legal_quiet script limits (H ++ e ∷ []) legal) p h moved)
+      (or_parts _ _ (or_parts _ _ (each_last (IsQuietAt script) [] H e (legal_quiet script limits (H ++ e ∷ []) legal) p h moved)).0).0
 
   -- the ring of a hart without an unused walk
   pub clear_own : (h : ℕ) (held : HartValue) → held.rings ≡ rings_of (tlb script (H ++ e ∷ []) h) → held.walked ≡ None → IsClear script H e held

@@ -7,7 +7,10 @@ use Rattle.cove_base.specs.HartValues.{HartValue}
 use Rattle.cove_base.specs.Places.{count_word, epoch_word, tvm_word, all_words}
 use Rattle.cove_base.specs.Scripts.{ScriptValue}
 use Rattle.cove_base.specs.declared.events.Entry.{Entry}
+use Rattle.cove_base.specs.declared.calls.HostCall.{HostCall}
 use Rattle.cove_base.specs.declared.events.Event.{Event}
+use Rattle.cove_base.specs.declared.statuses.Reply.{Reply}
+use Rattle.cove_model.specs.Answers.{state_after}
 use Rattle.cove_core.specs.Kept.{IsKept, ProgressStands}
 use Rattle.cove_core.specs.Made.{IsPerformed}
 use Rattle.cove_core.specs.declared.monitors.Mon.{Mon}
@@ -18,7 +21,7 @@ use Rattle.cove_base.specs.HartLines.{next_line}
 use Rattle.cove_model.proofs.Beginning.{outside_due}
 use Rattle.cove_model.proofs.Boards.{board_of}
 use Rattle.cove_model.proofs.Fitting.{fits_entered}
-use Rattle.cove_model.proofs.Unbuilt.{empty_after, empty_done, outside_after}
+use Rattle.cove_model.proofs.Unbuilt.{empty_after, empty_done, ended_line, outside_after}
 use Rattle.cove_model.specs.Cached.{IsReached}
 use Rattle.cove_model.specs.Fits.{Fits, InsideFits, rings_of}
 use Rattle.cove_model.specs.Histories.{after}
@@ -101,6 +104,12 @@ module _ (script : ScriptValue) (H : List Entry) (h : ℕ) (event : Event) where
       (rings ∙ ap (λ k. rings_of (renewed (after script H) k (tlb script H k) event)) (sym same))
       none
       (subst (InsideFits (after script (H ++ entry_by h event ∷ [])) held.hart) (sym outside) (outside_after script (H ++ entry_by h event ∷ []) held.hart))
+
+-- words and frames that stand for what a call leaves stand for the history with its entry
+pub call_entered : (pages harts : ℕ) (words : List ℕ) (frames : List (List ℕ)) (script : ScriptValue) (H : List Entry) (h : ℕ) (call : HostCall) (reply : Reply) → Stand pages harts words (state_after (after script H) h call) → FramesStand frames (state_after (after script H) h call) → Stand pages harts words (after script (H ++ entry_by h (Event.Call call reply) ∷ [])) × FramesStand frames (after script (H ++ entry_by h (Event.Call call reply) ∷ []))
+call_entered pages harts words frames script H h call reply stand memory =
+    let is = after_own script H h (Event.Call call reply) ∙ ended_line (after script H) h (empty_after script H) (Event.Call call reply) in
+    rw is (stand_ended pages harts h words (state_after (after script H) h call) stand, frames_ended frames h (state_after (after script H) h call) memory)
 
 -- no hart has ended more lines than there are entries
 pub ended_within : (script : ScriptValue) (h : ℕ) → h < script.harts → (H : List Entry) → ended_by (after script H) h ≤ length H

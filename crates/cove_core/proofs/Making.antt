@@ -1,5 +1,5 @@
 -- What a hart did, counted as an entry, is what the clauses of a step say.
-use Rattle.std.proofs.Common.{◌≡◌, ℕ, zero, suc, ◌+◌, ◌<◌, ◌≤◌, List, [], ◌∷◌, ◌++◌, None, Option, Some, IfSome, IfNone, IsSome, IsTrue, get_or, set, length, slice_get, refl, sym, subst, ap, ◌∙◌, arith}
+use Rattle.std.proofs.Common.{◌≡◌, ℕ, zero, suc, ◌+◌, ◌<◌, List, [], ◌∷◌, ◌++◌, None, Option, Some, IfSome, IfNone, IsSome, IsTrue, get_or, set, length, slice_get, refl, sym, subst, ap, ◌∙◌, arith}
 use Rattle.std.proofs.lemmas.Option.{none-some, same_Some}
 use Rattle.std.proofs.lemmas.List.{length_push}
 use Rattle.cove_base.proofs.HartPlaceLemmas.{line_at_place}

@@ -1,5 +1,5 @@
 -- At the opening the empty history is kept, and each hart of the board fits it.
-use Rattle.std.proofs.Common.{◌≡◌, ℕ, ◌<◌, List, [], None, get_or, length, replicate, refl, sym, subst, arith}
+use Rattle.std.proofs.Common.{◌≡◌, ℕ, ◌<◌, List, [], None, get_or, length, replicate, refl, sym, arith}
 use Rattle.cove_base.specs.HartValues.{no_rings}
 use Rattle.cove_base.specs.HartPlaces.{IsNextPlace}
 use Rattle.cove_base.specs.Places.{all_words, count_word, epoch_word, tvm_word}
@@ -10,7 +10,7 @@ use Rattle.cove_model.proofs.Lists.{replicate_zero}
 use Rattle.cove_model.proofs.OpeningStandsProofs.{opening_stands}
 use Rattle.cove_model.specs.Fits.{Fits}
 use Rattle.cove_model.specs.States.{ended_by, opening}
-use Rattle.cove_model.specs.WordsStand.{FramesStand, epoch_in, number_in}
+use Rattle.cove_model.specs.WordsStand.{FramesStand, epoch_in}
 
 -- no hart has ended a line
 none_ended : (script : ScriptValue) (h : ℕ) → ended_by (opening script) h ≡ 0
@@ -18,10 +18,7 @@ none_ended script h = replicate_zero script.harts h
 
 -- the first place of each hart is its place at the opening
 pub opening_progress : (script : ScriptValue) (places : List ℕ) → length places ≡ script.harts → ((h : ℕ) → h < script.harts → IsNextPlace script h 0 (get_or places h 0)) → ProgressStands script (opening script) places
-opening_progress script places count each = record {
-  count = count;
-  each = λ h below. subst (λ n. IsNextPlace script h n (get_or places h 0)) (sym (none_ended script h)) (each h below);
-}
+opening_progress script places count each = record { count = count; each = λ h below. rw (none_ended script h) (each h below) }
 
 -- words of zeros, frames of the opening memory and the first places keep the empty history
 pub opening_kept : (script : ScriptValue) (ground : Ground) (places : List ℕ) → IsBoard script ground → FramesStand ground.memory (opening script) → ProgressStands script (opening script) places → IsKept script (replicate (all_words script.pages script.harts) 0) (record { ground = ground; history = []; progress = places })
@@ -36,12 +33,7 @@ opening_kept script ground places board frames progress =
       frames = frames;
       progress = progress;
       count = replicate_zero n (count_word script.pages script.harts);
-      fences = record {
-        epoch = omega arith;
-        numbers = λ t low high.
-            let number : number_in script.pages script.harts (replicate n 0) t ≡ 0 = replicate_zero n (tvm_word script.pages script.harts t) in
-            omega arith;
-      };
+      fences = record { epoch = omega arith; numbers = λ t low high. omega (arith, replicate_zero n (tvm_word script.pages script.harts t)) };
     }
 
 -- a hart that has ended no line, found no page and made no walk fits

@@ -1,8 +1,10 @@
-ghost use Rattle.std.specs.Prelude.{◌≡◌, ◌+◌, ◌<◌, ◌≤◌, IfOk};
+ghost use Rattle.std.specs.Prelude.{◌≡◌, ℕ, ◌+◌, ◌<◌, List, IfOk};
 ghost use Rattle.cove_base.specs.declared.limits.TheConstants.{ENTRY_LIMIT};
-ghost use Rattle.cove_model.specs.States.{State};
+ghost use Rattle.cove_base.specs.Scripts.{ScriptValue};
+ghost use Rattle.cove_base.specs.declared.events.Entry.{Entry};
+ghost use Rattle.cove_model.specs.Histories.{after};
 ghost use Rattle.cove_model.specs.WordLaws.{Stand};
-ghost use Rattle.cove_model.specs.WordsStand.{FramesStand, epoch_in};
+ghost use Rattle.cove_model.specs.WordsStand.{FencesWithin, FramesStand, epoch_in};
 
 use crate::{Ground, build, call, play};
 use cove_base::{
@@ -29,11 +31,13 @@ fn reclaim(base: u64, n: u64) -> HostCall {
 // The answer to a call of one of two harts, on a board of 16 pages.
 fn answer(w: &mut Plain, g: &mut Ground, second: bool, c: HostCall) -> Reply
     requires board { (g.old.pages ≡ 16) × (g.old.harts ≡ 2) }
-    requires stands { (S : State) × Stand 16 2 w.old S × FramesStand g.old.memory S }
+    requires stands { (script : ScriptValue) × (history : List Entry)
+        × Stand 16 2 w.old (after script history) × FramesStand g.old.memory (after script history) }
     requires room { epoch_in 16 w.old < ENTRY_LIMIT }
     ensures board { (g.new.pages ≡ 16) × (g.new.harts ≡ 2) }
-    ensures stands { (S : State) × Stand 16 2 w.new S × FramesStand g.new.memory S }
-    ensures epoch { epoch_in 16 w.new ≤ epoch_in 16 w.old + 1 }
+    ensures stands { (script : ScriptValue) × (history : List Entry)
+        × Stand 16 2 w.new (after script history) × FramesStand g.new.memory (after script history) }
+    ensures fences { (most : ℕ) → FencesWithin 16 2 w.old most → FencesWithin 16 2 w.new (most + 1) }
 {
     call(w, g, hart_of(second), c)
 }
@@ -69,6 +73,7 @@ fn calls_of_two_harts_are_answered_in_turn(rt: HostRuntime) -> Result<(), Fail> 
 }
 
 // Hart 1 fences in the first phase, and hart 0 stores and loads in the second.
+#[tactic(auto, unfolding(cove_base::specs::Scripts::is_within_limits))]
 fn script(alloc: Global) -> Result<Script, NoMemory>
     ensures { IfOk result (λ script. (script.pages ≡ 16) × (script.harts ≡ 2)) }
 {

@@ -1,15 +1,14 @@
 -- The first check that fails answers.
-use Rattle.std.proofs.Common.{◌≡◌, ℕ, zero, suc, ◌⊎◌, inl, inr, Bool, true, false, List, [], ◌∷◌, take, slice_get, Some, None, refl, sym, ◌∙◌, ap, subst, true≢false, unwrap_or, ◌↔◌}
-use Rattle.std.proofs.lemmas.Bool.{cond-false, cond-true}
+use Rattle.std.proofs.Common.{◌≡◌, ℕ, zero, suc, ◌⊎◌, inl, inr, Bool, true, false, List, [], ◌∷◌, take, slice_get, Some, None, refl, sym, ◌∙◌, ap, subst, true≢false, ◌↔◌}
+use Rattle.std.proofs.lemmas.Bool.{both_ways}
 use Rattle.std.proofs.lemmas.Option.{none-some, same_Some}
 use Rattle.std.specs.List.{AllByRecursion}
 use Rattle.cove_base.specs.Statuses.{is_success}
 use Rattle.cove_base.specs.declared.calls.HostCall.{HostCall}
-use Rattle.cove_base.specs.declared.calls.HostCall.TheVariants.{Convert, GlobalFence, LocalFence, Reclaim, Create, Region, Tables, Measured, Vcpu, Finalize, Zero, Shared, Run, Invalidate, TvmFence, Validate, Remove, Destroy, Kick, Info, Bind, Unbind, Unbound, Inject}
-use Rattle.cove_base.specs.declared.statuses.Reply.{Reply}
+use Rattle.cove_base.specs.declared.calls.HostCall.TheVariants.{Info, LocalFence}
 use Rattle.cove_base.specs.declared.statuses.Status.TheVariants.{Success}
 use Rattle.cove_model.specs.HostCalls.{rule}
-use Rattle.cove_model.specs.Answers.{effect, outcome, refusal, reply_to, rule_of, state_after, state_by, value_of}
+use Rattle.cove_model.specs.Answers.{outcome, reply_to, rule_of, state_after}
 use Rattle.cove_model.specs.FirstChecks.{AllPassed, FailsFirst, reply_of}
 use Rattle.cove_model.specs.Refusals.{Check, first_failing}
 use Rattle.cove_model.specs.States.{State}
@@ -24,14 +23,14 @@ first_or_passed (x ∷ xs) = go x.fails refl (first_or_passed xs)
     go false e (inl first) = inl (suc first.0, (first.1.0, record { stands = first.1.1.stands; fails = first.1.1.fails; earlier = (e, first.1.1.earlier) }))
     go false e (inr passed) = inr (e, passed)
 
+found_fact : (P : Check → Type 0) (checks : List Check) (i : ℕ) (check : Check) → slice_get checks i ≡ Some check → AllByRecursion P checks → P check
+found_fact P [] i check at all = absurd (none-some _ at)
+found_fact P (x ∷ xs) zero check at all = subst P (same_Some x check at) all.0
+found_fact P (x ∷ xs) (suc i) check at all = found_fact P xs i check at all.1
+
 -- where every check passes, none fails
 pub first_not_passed : (checks : List Check) (i : ℕ) (check : Check) → FailsFirst checks i check → AllPassed checks → ⊥
-first_not_passed checks i check first passed = go checks i first.stands passed
-  where
-    go : (checks : List Check) (i : ℕ) → slice_get checks i ≡ Some check → AllPassed checks → ⊥
-    go [] i at passed = none-some _ at
-    go (x ∷ xs) zero at passed = true≢false (sym first.fails ∙ ap (λ c. c.fails) (sym (same_Some x check at)) ∙ passed.0)
-    go (x ∷ xs) (suc i) at passed = go xs i at passed.1
+first_not_passed checks i check first passed = both_ways check.fails (found_fact (λ c. c.fails ≡ false) checks i check first.stands passed) first.fails
 
 -- one check alone fails first
 pub first_once : (checks : List Check) (i j : ℕ) (check other : Check) → FailsFirst checks i check → FailsFirst checks j other → (i ≡ j) × (check ≡ other)
@@ -51,70 +50,38 @@ first_answers checks i check first = go checks i first.stands first.earlier
   where
     go : (checks : List Check) (i : ℕ) → slice_get checks i ≡ Some check → AllPassed (take i checks) → first_failing checks ≡ Some (reply_of check)
     go [] i at earlier = absurd (none-some _ at)
-    go (x ∷ xs) zero at earlier =
-        cond-true x.fails _ (first_failing xs) (ap (λ c. c.fails) (same_Some x check at) ∙ first.fails) ∙ ap (λ c. Some (reply_of c)) (same_Some x check at)
-    go (x ∷ xs) (suc i) at earlier = cond-false x.fails _ (first_failing xs) earlier.0 ∙ go xs i at earlier.1
+    go (x ∷ xs) zero at earlier = rw (same_Some x check at, first.fails)
+    go (x ∷ xs) (suc i) at earlier = rw earlier.0 (go xs i at earlier.1)
 
 -- where every check passes, none answers
 passed_answers : (checks : List Check) → AllPassed checks → first_failing checks ≡ None
 passed_answers [] passed = refl
-passed_answers (x ∷ xs) passed = cond-false x.fails _ (first_failing xs) passed.0 ∙ passed_answers xs passed.1
+passed_answers (x ∷ xs) passed = rw passed.0 (passed_answers xs passed.1)
 
 pub refused_by_first : (S : State) (hart : ℕ) (call : HostCall) (i : ℕ) (check : Check) → FailsFirst ((rule_of S hart call).checks) i check → (reply_to S hart call ≡ reply_of check) × (state_after S hart call ≡ S)
-refused_by_first S hart call i check first =
-    let e : refusal S hart call ≡ Some (reply_of check) = first_answers ((rule_of S hart call).checks) i check first in
-    let success : Reply = record { status = Success; value = value_of S hart call } in
-    (ap (λ o. unwrap_or o success) e, ap (λ o. state_by o S (effect S hart call)) e)
+refused_by_first S hart call i check first = rw (first_answers ((rule_of S hart call).checks) i check first) (refl, refl)
 
 pub accepted_by_all : (S : State) (hart : ℕ) (call : HostCall) → AllPassed ((rule_of S hart call).checks) → (reply_to S hart call ≡ record { status = Success; value = (outcome S hart call).value }) × (state_after S hart call ≡ (outcome S hart call).state)
-accepted_by_all S hart call passed =
-    let e : refusal S hart call ≡ None = passed_answers ((rule_of S hart call).checks) passed in
-    let success : Reply = record { status = Success; value = value_of S hart call } in
-    (ap (λ o. unwrap_or o success) e, ap (λ o. state_by o S (effect S hart call)) e)
+accepted_by_all S hart call passed = rw (passed_answers ((rule_of S hart call).checks) passed) (refl, refl)
 
 -- no check answers success
 never_success : (S : State) (hart : ℕ) (call : HostCall) → AllByRecursion (λ check. is_success check.status ≡ false) (rule_of S hart call).checks
 never_success S hart call = (refl, of_row call)
   where
     of_row : (c : HostCall) → AllByRecursion (λ check. is_success check.status ≡ false) (rule S hart c).checks
-    of_row (Convert base n) = (refl, (refl, (refl, (refl, (refl, tt)))))
-    of_row GlobalFence = (refl, tt)
     of_row LocalFence = tt
-    of_row (Reclaim base n) = (refl, (refl, (refl, (refl, tt))))
-    of_row (Create root state) = (refl, (refl, (refl, (refl, (refl, (refl, (refl, (refl, tt))))))))
-    of_row (Region t gpa len) = (refl, (refl, (refl, (refl, (refl, (refl, (refl, tt)))))))
-    of_row (Tables t base n) = (refl, (refl, (refl, (refl, (refl, tt)))))
-    of_row (Measured t src dst n gpa) = (refl, (refl, (refl, (refl, (refl, (refl, (refl, (refl, (refl, (refl, (refl, (refl, (refl, tt)))))))))))))
-    of_row (Vcpu t v state) = (refl, (refl, (refl, (refl, (refl, (refl, (refl, tt)))))))
-    of_row (Finalize t pc arg) = (refl, (refl, (refl, (refl, tt))))
-    of_row (Zero t base n gpa) = (refl, (refl, (refl, (refl, (refl, (refl, (refl, (refl, (refl, (refl, tt))))))))))
-    of_row (Shared t base n gpa) = (refl, (refl, (refl, (refl, (refl, (refl, (refl, (refl, (refl, (refl, tt))))))))))
-    of_row (Run t v fuel) = (refl, (refl, (refl, (refl, (refl, (refl, (refl, (refl, tt))))))))
-    of_row (Invalidate t gpa n) = (refl, (refl, (refl, (refl, (refl, tt)))))
-    of_row (TvmFence t) = (refl, (refl, (refl, tt)))
-    of_row (Validate t gpa n) = (refl, (refl, (refl, (refl, (refl, (refl, tt))))))
-    of_row (Remove t gpa n) = (refl, (refl, (refl, (refl, (refl, (refl, tt))))))
-    of_row (Destroy t) = (refl, (refl, tt))
-    of_row (Kick h) = (refl, tt)
     of_row Info = tt
-    of_row (Bind t v h file) = (refl, (refl, (refl, (refl, (refl, (refl, (refl, tt)))))))
-    of_row (Unbind t v) = (refl, (refl, (refl, (refl, tt))))
-    of_row (Unbound t v) = (refl, (refl, (refl, (refl, tt))))
-    of_row (Inject t v id) = (refl, (refl, (refl, (refl, tt))))
-
-found_fact : (P : Check → Type 0) (checks : List Check) (i : ℕ) (check : Check) → slice_get checks i ≡ Some check → AllByRecursion P checks → P check
-found_fact P [] i check at all = absurd (none-some _ at)
-found_fact P (x ∷ xs) zero check at all = subst P (same_Some x check at) all.0
-found_fact P (x ∷ xs) (suc i) check at all = found_fact P xs i check at all.1
+    of_row c = assumption
 
 -- success is answered exactly where every check passes
 pub success_by_all : (S : State) (hart : ℕ) (call : HostCall) → ((reply_to S hart call).status ≡ Success) ↔ AllPassed ((rule_of S hart call).checks)
-success_by_all S hart call = (passes (first_or_passed ((rule_of S hart call).checks)), λ passed. ap (λ r. r.status) (accepted_by_all S hart call passed).0)
-  where
-    passes : ((i : ℕ) × ((check : Check) × FailsFirst ((rule_of S hart call).checks) i check)) ⊎ AllPassed ((rule_of S hart call).checks) → (reply_to S hart call).status ≡ Success → AllPassed ((rule_of S hart call).checks)
-    passes (inr passed) e = passed
-    passes (inl first) e =
-        let check = first.1.0 in
-        let not = found_fact (λ c. is_success c.status ≡ false) ((rule_of S hart call).checks) first.0 check first.1.1.stands (never_success S hart call) in
-        let is : check.status ≡ Success = sym (ap (λ r. r.status) (refused_by_first S hart call first.0 check first.1.1).0) ∙ e in
-        absurd (true≢false (sym (ap is_success is) ∙ not))
+success_by_all S hart call = (
+  λ e. elim (first_or_passed ((rule_of S hart call).checks)) [
+    | inr passed ↦ passed
+    | inl first ↦
+        let never = found_fact (λ c. is_success c.status ≡ false) ((rule_of S hart call).checks) first.0 first.1.0 first.1.1.stands (never_success S hart call) in
+        let is : first.1.0.status ≡ Success = sym (ap (λ r. r.status) (refused_by_first S hart call first.0 first.1.0 first.1.1).0) ∙ e in
+        absurd (true≢false (sym (ap is_success is) ∙ never))
+  ],
+  λ passed. ap (λ r. r.status) (accepted_by_all S hart call passed).0,
+)

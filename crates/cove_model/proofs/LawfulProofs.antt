@@ -1,5 +1,5 @@
 -- The stores of the calls on owners are lawful.
-use Rattle.std.proofs.Common.{◌≡◌, ◌≢◌, ℕ, zero, suc, ◌+◌, ◌/◌, ◌<◌, ◌≤◌, List, get_or, set, refl, sym, ◌∙◌, ap, subst, inl, arith, get_or-set_same, get_or-set_other}
+use Rattle.std.proofs.Common.{◌≡◌, ℕ, zero, suc, ◌+◌, ◌/◌, ◌<◌, ◌≤◌, List, get_or, set, refl, sym, ◌∙◌, ap, subst, inl, arith, get_or-set_same, get_or-set_other}
 use Rattle.std.proofs.Math.Path.{fun_ext}
 use Rattle.cove_base.specs.PageWords.{host, converting}
 use Rattle.cove_base.specs.Places.{epoch_word, answered_word}
@@ -11,15 +11,13 @@ use Rattle.cove_model.specs.WordLaws.{ConvertIsLawful, GlobalFenceIsLawful, Loca
 -- pages that are the host's and not mapped, at the last entry and now, go into conversion one after another
 converts : (pages harts : ℕ) (tables : ℕ → Tables) (hart : ℕ) (old : List ℕ) (epoch first n : ℕ) (now : List ℕ) → first + n ≤ pages → epoch_in pages now ≡ epoch → ((p : ℕ) → first ≤ p → p < first + n → get_or old p 0 ≡ host 0) → ((p : ℕ) → first ≤ p → p < first + n → get_or now p 0 ≡ host 0) → AllAllowed (IsLawful pages harts tables hart old) now (fills first n (converting epoch))
 converts pages harts tables hart old epoch first zero now inside at before free = tt
-converts pages harts tables hart old epoch first (suc n) now inside at before free =
-    let next : List ℕ = set now first (converting epoch) in
-    let apart : epoch_word pages ≢ first = omega arith in (
-      Converts first (omega arith) refl (before first (omega arith) (omega arith)) (free first (omega arith) (omega arith)) (ap converting (sym at)),
-      converts pages harts tables hart old epoch (first + 1) n next (omega arith)
-          (get_or-set_other now first (epoch_word pages) (converting epoch) 0 apart ∙ at)
-          (λ p low high. before p (omega arith) (omega arith))
-          (λ p low high. let ne : p ≢ first = omega arith in get_or-set_other now first p (converting epoch) 0 ne ∙ free p (omega arith) (omega arith)),
-    )
+converts pages harts tables hart old epoch first (suc n) now inside at before free = (
+  Converts first (omega arith) refl (before first (omega arith) (omega arith)) (free first (omega arith) (omega arith)) (ap converting (sym at)),
+  converts pages harts tables hart old epoch (first + 1) n (set now first (converting epoch)) (omega arith)
+      (get_or-set_other now first (epoch_word pages) (converting epoch) 0 (omega arith) ∙ at)
+      (λ p low high. before p (omega arith) (omega arith))
+      (λ p low high. get_or-set_other now first p (converting epoch) 0 (omega arith) ∙ free p (omega arith) (omega arith)),
+)
 
 pub convert_is_lawful : ConvertIsLawful
 convert_is_lawful pages harts tables words hart base n inside free =
@@ -29,15 +27,13 @@ convert_is_lawful pages harts tables words hart base n inside free =
 reclaims : (pages harts : ℕ) (tables : ℕ → Tables) (hart : ℕ) (old : List ℕ) (first n : ℕ) (now : List ℕ) → first + n ≤ pages → ((p : ℕ) → first ≤ p → p < first + n → IsFreeIn pages harts now p) → AllAllowed (IsLawful pages harts tables hart old) now (fills first n (host 0))
 reclaims pages harts tables hart old first zero now inside free = tt
 reclaims pages harts tables hart old first (suc n) now inside free =
-    let next : List ℕ = set now first (host 0) in
-    let numbers : answered_in pages now ≡ answered_in pages next =
-    fun_ext (λ k. let apart : answered_word pages k ≢ first = omega arith in sym (get_or-set_other now first (answered_word pages k) (host 0) 0 apart)) in (
+    let numbers : answered_in pages now ≡ answered_in pages (set now first (host 0)) =
+    fun_ext (λ k. sym (get_or-set_other now first (answered_word pages k) (host 0) 0 (omega arith))) in (
       Frees first (omega arith) refl (free first (omega arith) (omega arith)) (inl refl),
-      reclaims pages harts tables hart old (first + 1) n next (omega arith)
+      reclaims pages harts tables hart old (first + 1) n (set now first (host 0)) (omega arith)
           (λ p low high.
-          let ne : p ≢ first = omega arith in
-          subst (λ a. FreeStands harts a (get_or next p 0)) numbers
-          (subst (FreeStands harts (answered_in pages now)) (sym (get_or-set_other now first p (host 0) 0 ne)) (free p (omega arith) (omega arith)))),
+          subst (λ a. FreeStands harts a (get_or (set now first (host 0)) p 0)) numbers
+          (rw (get_or-set_other now first p (host 0) 0 (omega arith)) (free p (omega arith) (omega arith)))),
     )
 
 pub reclaim_is_lawful : ReclaimIsLawful

@@ -3,8 +3,10 @@ use Rattle.cove_model.specs.Owners.{has, without}
 use Rattle.cove_model.specs.Sound.{Rises}
 use Rattle.cove_model.specs.States.{harts_below}
 use Rattle.cove_model.specs.Translations.{filled}
-use Rattle.std.proofs.Common.{Bool, List, [], arith, cond, drop, eq-eqb, eqb, eqb-true, false, inl, inr, length, not, refl, suc, sym, true, zero, ℕ, ⊎_elim, ◌++◌, ◌+◌, ◌-◌, ◌<◌, ◌||◌, ◌∙◌, ◌∷◌, ◌≡◌, ◌≤◌, ◌⊎◌}
-use Rattle.std.proofs.lemmas.Bool.{cases_eq, cond_both, or_cases, or_from, or_left, or_right}
+use Rattle.std.proofs.Common.{List, [], arith, drop, eqb, false, inl, length, not, refl, suc, sym, true, zero, ℕ, ◌++◌, ◌+◌, ◌-◌, ◌<◌, ◌∙◌, ◌∷◌, ◌≡◌, ◌≤◌, ◌⊎◌}
+use Rattle.std.proofs.lemmas.Bool.{cond_both, or_cases, or_right}
+use Rattle.std.proofs.lemmas.Bool.Decides.{nat_tests}
+use Rattle.std.proofs.lemmas.List.Folds.{list_any-append}
 use Rattle.std.specs.List.{AllByRecursion, range_with_len}
 
 pub false-true : {P : Type 0} → false ≡ true → P
@@ -12,44 +14,23 @@ false-true e = cc
 
 pub has_without : (k h : ℕ) → (h ≡ k → ⊥) → (ns : List ℕ) → has h ns ≡ true → has h (without k ns) ≡ true
 has_without k h ne [] e = cc
-has_without k h ne (x ∷ xs) e = go (eqb x k) refl (or_cases (eqb x h) (has h xs) e) (has_without k h ne xs)
-  where
-    go : (b : Bool) → eqb x k ≡ b → (eqb x h ≡ true) ⊎ (has h xs ≡ true) → (has h xs ≡ true → has h (without k xs) ≡ true) → has h (cond (not b) (x ∷ without k xs) (without k xs)) ≡ true
-    go true e (inl here) more = absurd (ne (sym (eqb-true x h here) ∙ eqb-true x k e))
-    go true e (inr there) more = more there
-    go false e (inl here) more = or_left (eqb x h) (has h (without k xs)) here
-    go false e (inr there) more = or_right (eqb x h) (has h (without k xs)) (more there)
+has_without k h ne (x ∷ xs) e = grind (arith, nat_tests, has_without k h ne xs)
 
 pub has_with : (k h : ℕ) (ns : List ℕ) → has h (without k ns) ≡ true → has h ns ≡ true
 has_with k h [] e = e
-has_with k h (x ∷ xs) e = go (eqb x k) e (has_with k h xs)
-  where
-    go : (b : Bool) → has h (cond (not b) (x ∷ without k xs) (without k xs)) ≡ true → (has h (without k xs) ≡ true → has h xs ≡ true) → (eqb x h || has h xs) ≡ true
-    go true e more = or_right (eqb x h) (has h xs) (more e)
-    go false e more = ⊎_elim (λ here. or_left (eqb x h) (has h xs) here) (λ there. or_right (eqb x h) (has h xs) (more there)) (or_cases (eqb x h) (has h (without k xs)) e)
+has_with k h (x ∷ xs) e = grind (arith, nat_tests, has_with k h xs)
 
 pub has_not : (k : ℕ) (ns : List ℕ) → has k (without k ns) ≡ false
 has_not k [] = refl
-has_not k (x ∷ xs) = go (eqb x k) refl (has_not k xs)
-  where
-    go : (b : Bool) → eqb x k ≡ b → has k (without k xs) ≡ false → has k (cond (not b) (x ∷ without k xs) (without k xs)) ≡ false
-    go true e more = more
-    go false e more = or_from (eqb x k) (has k (without k xs)) e more
+has_not k (x ∷ xs) = grind (arith, nat_tests, has_not k xs)
 
 has_range : (a n h : ℕ) → a ≤ h → h < a + n → has h (range_with_len a n) ≡ true
 has_range a zero h low high = absurd (omega arith)
-has_range a (suc n) h low high = go (cases_eq a h) (λ l u. has_range (a + 1) n h l u)
-  where
-    go : (a ≡ h) ⊎ (a ≡ h → ⊥) → (a + 1 ≤ h → h < (a + 1) + n → has h (range_with_len (a + 1) n) ≡ true) → has h (range_with_len a (suc n)) ≡ true
-    go (inl e) more = or_left (eqb a h) (has h (range_with_len (a + 1) n)) (eq-eqb a h e)
-    go (inr ne) more = or_right (eqb a h) (has h (range_with_len (a + 1) n)) (more (omega arith) (omega arith))
+has_range a (suc n) h low high = grind (arith, nat_tests, has_range (a + 1) n h)
 
 range_has : (a n h : ℕ) → has h (range_with_len a n) ≡ true → (a ≤ h) × (h < a + n)
 range_has a zero h e = false-true e
-range_has a (suc n) h e = ⊎_elim
-    (λ here. let q = eqb-true a h here in (omega arith, omega arith))
-    (λ there. let q = range_has (a + 1) n h there in (omega arith, omega arith))
-    (or_cases (eqb a h) (has h (range_with_len (a + 1) n)) e)
+range_has a (suc n) h e = grind (arith, nat_tests, range_has (a + 1) n h)
 
 -- the harts below a number are these
 pub has_below : (n h : ℕ) → h < n → has h (harts_below n) ≡ true
@@ -59,11 +40,7 @@ pub below_has : (n h : ℕ) → has h (harts_below n) ≡ true → h < n
 below_has n h e = let q = range_has 0 n h e in omega arith
 
 pub has_append : (n : ℕ) (xs ys : List ℕ) → has n (xs ++ ys) ≡ true → (has n xs ≡ true) ⊎ (has n ys ≡ true)
-has_append n [] ys e = inr e
-has_append n (x ∷ xs) ys e = ⊎_elim
-    (λ here. inl (or_left (eqb x n) (has n xs) here))
-    (λ there. ⊎_elim (λ l. inl (or_right (eqb x n) (has n xs) l)) inr (has_append n xs ys there))
-    (or_cases (eqb x n) (has n (xs ++ ys)) e)
+has_append n xs ys e = or_cases (has n xs) (has n ys) (sym (list_any-append (λ m. eqb m n) xs ys) ∙ e)
 
 pub has_drop : (n k : ℕ) (xs : List ℕ) → has n (drop k xs) ≡ true → has n xs ≡ true
 has_drop n zero xs e = e
@@ -72,9 +49,9 @@ has_drop n (suc k) (x ∷ xs) e = or_right (eqb x n) (has n xs) (has_drop n k xs
 
 -- a walk adds its page alone
 pub has_filled : (n p : ℕ) (ps : List ℕ) → has n (filled ps p) ≡ true → (has n ps ≡ true) ⊎ (p ≡ n)
-has_filled n p ps e = ⊎_elim inl
-    (λ there. inr (⊎_elim (λ here. eqb-true p n here) false-true (or_cases (eqb p n) false there)))
-    (has_append n ps (p ∷ []) (has_drop n (length (ps ++ p ∷ []) - 4) (ps ++ p ∷ []) e))
+has_filled n p ps e =
+    let there = has_append n ps (p ∷ []) (has_drop n (length (ps ++ p ∷ []) - 4) (ps ++ p ∷ []) e) in
+    grind (arith, nat_tests)
 
 -- ---- rising lists
 

@@ -7,12 +7,12 @@ use Rattle.cove_model.proofs.Loads.{load_told}
 use Rattle.cove_model.specs.Cached.{IsCached, IsQuiet}
 use Rattle.cove_model.specs.Examples.{and_back, board, during_a_fence, during_a_fence_history, early_walk, early_walk_history, ended_hits, ended_hits_history, faulted, fence, held_before, held_before_history, last_answer, last_answer_history, late, late_history, load, loaded, local_fence, long_fill, once_free, said, short_fill, stale, stale_history, there_and_back, there_and_back_history, to_the_monitor, two_harts}
 use Rattle.cove_model.specs.Histories.{Legal, after, own}
-use Rattle.cove_model.specs.Owners.{Holder, OfTvm, TheHost, TheMonitor, zeros}
+use Rattle.cove_model.specs.Owners.{TheHost, TheMonitor, zeros}
 use Rattle.cove_model.specs.Offers.{is_found}
 use Rattle.cove_base.specs.declared.walks.Target.TheVariants.{Host}
 use Rattle.cove_model.specs.Played.{played}
 use Rattle.cove_model.specs.States.{opening, opening_words, word_at}
-use Rattle.std.proofs.Common.{List, [], ap, arith, drop, refl, slice_index, sym, take, true, true≢false, false, ℕ, Bool, ◌++◌, ◌∙◌, ◌∷◌, ◌≡◌, ◌≢◌}
+use Rattle.std.proofs.Common.{List, [], ap, arith, drop, refl, slice_index, sym, take, true, true≢false, ℕ, ◌++◌, ◌∙◌, ◌∷◌, ◌≡◌, ◌≢◌}
 
 -- ---- the opening memory
 
@@ -57,34 +57,22 @@ stale_word : slice_index (opening_words stale.fills 4) 0 ≡ 0x8877665544332211
 unfolding opening_words
 stale_word = refl
 
-stale_turns : played 8 stale ≡ stale_history (slice_index (opening_words stale.fills 4) 0) Hit
-unfolding played
-stale_turns = refl
-
 pub stale_played : played 8 stale ≡ stale_history 0x8877665544332211 Hit
-stale_played = stale_turns ∙ ap (λ word. stale_history word Hit) stale_word
+unfolding played
+stale_played = ap (λ word. stale_history word Hit) stale_word
 
 -- these show the first word of page 4, which is zero
-held_before_turns : played 8 held_before ≡ loaded 1 0x4000 Walk word_zero ∷ take 4 (drop 1 held_before_history) ++ loaded 0 0x4000 Walk 0 ∷ []
-unfolding played zeros
-held_before_turns = refl
-
 pub held_before_played : played 8 held_before ≡ held_before_history
-held_before_played = held_before_turns ∙ ap (λ word. loaded 1 0x4000 Walk word ∷ drop 1 held_before_history) zero_word
-
-early_walk_turns : played 8 early_walk ≡ to_the_monitor ∷ loaded 1 0x4000 Walk word_zero ∷ faulted 2 0x4000 ∷ []
-unfolding played
-early_walk_turns = refl
+unfolding played zeros
+held_before_played = ap (λ word. loaded 1 0x4000 Walk word ∷ drop 1 held_before_history) zero_word
 
 pub early_walk_played : played 8 early_walk ≡ early_walk_history
-early_walk_played = early_walk_turns ∙ ap (λ word. to_the_monitor ∷ loaded 1 0x4000 Walk word ∷ faulted 2 0x4000 ∷ []) zero_word
-
-ended_hits_turns : played 8 ended_hits ≡ loaded 1 0x4000 Walk word_zero ∷ to_the_monitor ∷ loaded 1 0x4000 Hit word_zero ∷ drop 3 ended_hits_history
 unfolding played
-ended_hits_turns = refl
+early_walk_played = ap (λ word. to_the_monitor ∷ loaded 1 0x4000 Walk word ∷ faulted 2 0x4000 ∷ []) zero_word
 
 pub ended_hits_played : played 8 ended_hits ≡ ended_hits_history
-ended_hits_played = ended_hits_turns ∙ ap (λ word. loaded 1 0x4000 Walk word ∷ to_the_monitor ∷ loaded 1 0x4000 Hit word ∷ drop 3 ended_hits_history) zero_word
+unfolding played
+ended_hits_played = ap (λ word. loaded 1 0x4000 Walk word ∷ to_the_monitor ∷ loaded 1 0x4000 Hit word ∷ drop 3 ended_hits_history) zero_word
 
 pub last_answer_played : played 8 last_answer ≡ last_answer_history
 unfolding played
@@ -94,44 +82,28 @@ last_answer_played = refl
 
 -- a load shows the word of the opening memory
 pub other_word : Legal (board 1 [] (load 0 0x4000 ∷ []) []) (loaded 0 0x4000 Walk 5 ∷ []) → ⊥
-other_word legal = five ((load_told (board 1 [] (load 0 0x4000 ∷ []) []) (opening (board 1 [] (load 0 0x4000 ∷ []) [])) 0 0x4000 Walk 5 legal.0).1 ∙ zero_word)
-  where
-    five : ◌≡◌ {A = ℕ} 5 0 → ⊥
-    five e = absurd (omega arith)
+other_word legal =
+    let script = board 1 [] (load 0 0x4000 ∷ []) [] in
+    absurd (let e : ◌≡◌ {A = ℕ} 5 0 = (load_told script (opening script) 0 0x4000 Walk 5 legal.0).1 ∙ zero_word in omega arith)
 
 -- a walk that was made after a convert finds nothing
 abbrev late_front : List Entry
 late_front = take 2 late_history
 
 never_late : (earlier since : List Entry) → late_front ≡ earlier ++ since → own since 1 ≡ [] → is_found (after late earlier) 1 (Host (record { 0 = 4 })) ≡ true → ⊥
-never_late [] since split silent host = some (ap (λ xs. own xs 1) split ∙ silent)
-  where
-    some : said 1 LocalFence Success 0 ∷ [] ≡ [] → ⊥
-    some e = cc
-never_late (x ∷ []) since split silent host = some (ap (λ xs. own (drop 1 xs) 1) split ∙ silent)
-  where
-    some : said 1 LocalFence Success 0 ∷ [] ≡ [] → ⊥
-    some e = cc
+never_late [] since split silent host = absurd (let e : said 1 LocalFence Success 0 ∷ [] ≡ [] = ap (λ xs. own xs 1) split ∙ silent in cc)
+never_late (x ∷ []) since split silent host = absurd (let e : said 1 LocalFence Success 0 ∷ [] ≡ [] = ap (λ xs. own (drop 1 xs) 1) split ∙ silent in cc)
 never_late (x ∷ y ∷ []) since split silent host =
-    let whole = ap (take 2) split in
-    true≢false (sym host ∙ ap (λ xs. is_found (after late xs) 1 (Host (record { 0 = 4 }))) (sym whole))
-never_late (x ∷ y ∷ z ∷ earlier) since split silent host = none (ap (drop 2) split)
-  where
-    none : [] ≡ z ∷ (earlier ++ since) → ⊥
-    none e = cc
+    true≢false (sym host ∙ ap (λ xs. is_found (after late xs) 1 (Host (record { 0 = 4 }))) (sym (ap (take 2) split)))
+never_late (x ∷ y ∷ z ∷ earlier) since split silent host = absurd (let e : [] ≡ z ∷ (earlier ++ since) = ap (drop 2) split in cc)
 
 pub late_walk : IsCached late late_history → ⊥
 late_walk cached = let was = cached.1.1.0.1 in never_late was.earlier was.since was.split was.silent was.found
 
 -- ---- what is not quiet
 
-abbrev the_host : Holder → Bool
-the_host TheHost = true
-the_host TheMonitor = false
-the_host (OfTvm tvm) = false
-
 comes_back : TheHost ≢ TheMonitor
-comes_back e = true≢false (ap the_host e)
+comes_back e = cc
 
 pub named_by_other : IsQuiet two_harts (once_free ++ loaded 1 0x4000 Walk 0 ∷ and_back ∷ []) → ⊥
 named_by_other quiet = true≢false (quiet.1.1.1.1.0 4 1 comes_back)

@@ -1,3 +1,5 @@
+#![tactic(auto, unfolding(crate::specs::Fronts::front_of, crate::specs::Grammar::script_of, crate::specs::Grammar::line_read, crate::specs::Grammar::words_read, crate::specs::Grammar::content_of, crate::specs::Grammar::judged, crate::specs::Grammar::is_number, crate::specs::Grammar::value, crate::specs::Grammar::bytes_of, crate::specs::Grammar::is_line_word, crate::specs::Grammar::line_of))]
+
 ghost use Rattle.std.specs.Prelude.{◌≡◌, [], ◌∷◌, ◌++◌, codes, Ok, Err};
 ghost use Rattle.cove_base.specs.declared.faults.Kind.TheVariants.{TooLong, NotAscii, BadHeader, UnknownWord, BadNumber, WrongCount, OutOfBoard, NoEnd};
 ghost use Rattle.cove_model.specs.Examples.{load, loaded, text};

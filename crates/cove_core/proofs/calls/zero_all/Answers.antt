@@ -1,4 +1,4 @@
-use Rattle.std.proofs.Common.{◌≡◌, ℕ, suc, ◌+◌, ◌-◌, ◌<◌, List, [], get_or, length, set, refl, sym, ◌∙◌, ap, arith, length-set}
+use Rattle.std.proofs.Common.{◌≡◌, ℕ, suc, ◌+◌, ◌-◌, ◌<◌, List, length, set, refl, ◌∙◌, ap, arith, length-set}
 use Rattle.cove_mem.specs.Frames.{zeros as frame_of_zeros}
 use Rattle.cove_model.proofs.FrameProofs.{zeroed_inside}
 use Rattle.cove_model.specs.Owners.{zeros}
@@ -14,30 +14,18 @@ zeroed_rest : (frames : List (List ℕ)) (first i n : ℕ) → i < n → zeroed 
 zeroed_rest frames first i n h =
     let more : n - i ≡ suc (n - (i + 1)) = omega arith in
     let next : first + i + 1 ≡ first + (i + 1) = omega arith in
-    ap (λ k. zeroed frames (first + i) k) more
-    ∙ ap (λ p. zeroed (set frames (first + i) zeros) p (n - (i + 1))) next
-    ∙ ap (λ z. zeroed (set frames (first + i) z) (first + (i + 1)) (n - (i + 1))) (sym zeros_are)
+    rw (more, zeros_are, ← next)
 
 pub loop-i-preserved : goal.loop-i-preserved
-loop-i-preserved c =
-    let first = c.args.range.first.0 in
-    let i = c.loop-i.i in
-    let old : List (List ℕ) = c.loop-i.g.memory in
-    let step : zeroed old (first + i) (c.args.range.count - i) ≡ zeroed (set old (first + i) frame_of_zeros) (first + (i + 1)) (c.args.range.count - (i + 1)) =
-    zeroed_rest old first i c.args.range.count (omega arith) in
-    record {
-      leads = ap (λ fs. zeroed fs (first + (i + 1)) (c.args.range.count - (i + 1))) c.zero.ensures ∙ sym step ∙ c.loop-i.invariant.leads;
-      size = ap length c.zero.ensures ∙ length-set old (first + i) frame_of_zeros ∙ c.loop-i.invariant.size;
-      pages = c.loop-i.invariant.pages;
-      harts = c.loop-i.invariant.harts;
-    }
+loop-i-preserved c = record {
+  leads = rw (c.zero.ensures, ← zeroed_rest c.loop-i.g.memory c.args.range.first.0 c.loop-i.i c.args.range.count (omega arith)) c.loop-i.invariant.leads;
+  size = ap length c.zero.ensures ∙ length-set c.loop-i.g.memory (c.args.range.first.0 + c.loop-i.i) frame_of_zeros ∙ c.loop-i.invariant.size;
+  pages = c.loop-i.invariant.pages;
+  harts = c.loop-i.invariant.harts;
+}
 
 pub returns-clause-zeros : goal.returns-clause-zeros
 returns-clause-zeros c page low high =
-    let first = c.args.range.first.0 in
-    let count = c.args.range.count in
-    let old : List (List ℕ) = c.args.g.now.memory in
-    let none : count - c.loop-i.i ≡ 0 = omega (arith, c.loop-i-test.false) in
-    let all : c.loop-i.g.memory ≡ zeroed old first count =
-    sym (ap (λ k. zeroed c.loop-i.g.memory (first + c.loop-i.i) k) none) ∙ c.loop-i.invariant.leads in
-    ap (λ fs. get_or fs page []) all ∙ zeroed_inside old first count page low high (omega (arith, c.requires.pages))
+    let none : c.args.range.count - c.loop-i.i ≡ 0 = omega (arith, c.loop-i-test.false) in
+    let all = rw none at c.loop-i.invariant.leads in
+    rw all (zeroed_inside c.args.g.now.memory c.args.range.first.0 c.args.range.count page low high (omega (arith, c.requires.pages)))

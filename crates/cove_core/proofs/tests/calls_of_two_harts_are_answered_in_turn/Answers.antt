@@ -1,25 +1,16 @@
-use Rattle.std.proofs.Common.{ap, subst, ◌∙◌, arith, length}
-use Rattle.cove_model.specs.Histories.{after}
-use Rattle.cove_model.specs.WordLaws.{Stand}
-use Rattle.cove_model.specs.WordsStand.{epoch_in}
+use Rattle.std.proofs.Common.{ap, length, sym, ◌∙◌, arith}
 use Rattle.cove_core.proofs.tests.calls_of_two_harts_are_answered_in_turn.Goals as goal
 
 pub loop-second-init : goal.loop-second-init
 loop-second-init g c =
-    let script = c.in_ok-script.script in
     let board = c.in_ok-script.ensures in
-    let words = c.in_ok-built.built.words in
     let fresh = c.in_ok-built.ensures.fresh in
     let kept = fresh.ready.kept in
-    let S = after script c.in_ok-built.built.mon.history in
-    let none = ap length fresh.unplayed in
-    let same = ap (λ n. epoch_in n words) board.0 in
-    let few = kept.fences.epoch in
     record {
       pages = kept.board.pages ∙ board.0;
       harts = kept.board.harts ∙ board.1;
-      stands = (S, subst (λ n. Stand 16 n words S) board.1 (subst (λ n. Stand n script.harts words S) board.0 kept.stands), kept.frames);
-      epoch = omega arith;
+      stands = (c.in_ok-script.script, c.in_ok-built.built.mon.history, rw (board.0, board.1) at kept.stands, kept.frames);
+      fences = rw (board.0, board.1, ap length fresh.unplayed) at kept.fences;
     }
 
 pub loop-second-preserved : goal.loop-second-preserved
@@ -27,12 +18,12 @@ loop-second-preserved g c = record {
   pages = c.answer-reply.ensures.board.0;
   harts = c.answer-reply.ensures.board.1;
   stands = c.answer-reply.ensures.stands;
-  epoch = omega (arith, c.answer-reply.ensures.epoch, c.loop-second.invariant.epoch);
+  fences = c.answer-reply.ensures.fences _ c.loop-second.invariant.fences;
 }
 
 pub answer-reply-requires : goal.answer-reply-requires
 answer-reply-requires g c = record {
   board = (c.loop-second.invariant.pages, c.loop-second.invariant.harts);
   stands = c.loop-second.invariant.stands;
-  room = omega (arith, c.loop-second.invariant.epoch, c.loop-second.auto.second-index-end);
+  room = omega (arith, c.loop-second.invariant.fences.epoch, c.loop-second.auto.second-index-end);
 }

@@ -1,13 +1,15 @@
-use Rattle.std.proofs.Common.{◌≡◌, ◌≤◌}
-use Rattle.cove_model.specs.States.{State}
+use Rattle.std.proofs.Common.{◌≡◌, List}
+use Rattle.cove_base.specs.Scripts.{ScriptValue}
+use Rattle.cove_base.specs.declared.events.Entry.{Entry}
+use Rattle.cove_model.specs.Histories.{after}
 use Rattle.cove_model.specs.WordLaws.{Stand}
-use Rattle.cove_model.specs.WordsStand.{FramesStand, epoch_in}
+use Rattle.cove_model.specs.WordsStand.{FencesWithin, FramesStand}
 use Rattle.cove_core.proofs.tests.calls_of_two_harts_are_answered_in_turn.Given as goal
 
 abbrev pub invariant-loop-second : goal.invariant-loop-second
 invariant-loop-second g l = record {
   pages : l.built.mon.ground.pages ≡ 16;
   harts : l.built.mon.ground.harts ≡ 2;
-  stands : (S : State) × Stand 16 2 l.built.words S × FramesStand l.built.mon.ground.memory S;
-  epoch : epoch_in 16 l.built.words ≤ l.second-index;
+  stands : (script : ScriptValue) × (history : List Entry) × Stand 16 2 l.built.words (after script history) × FramesStand l.built.mon.ground.memory (after script history);
+  fences : FencesWithin 16 2 l.built.words l.second-index;
 }
