@@ -1,0 +1,5 @@
+mod AreaLemmas
+mod RowLemmas
+mod CutLemmas
+mod KindLemmas
+mod JoinLemmas

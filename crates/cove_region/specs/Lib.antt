@@ -1,0 +1,2 @@
+pub mod GuestMaps
+pub mod Rows

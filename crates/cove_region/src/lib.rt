@@ -1,0 +1,17 @@
+#![tactic(auto)]
+//! The guest pages of a TVM: in its regions they are private or shared, elsewhere there are none. Proved, by the
+//! clauses of [`Regions`]: what each guest page is after a call, in sets of guest pages; each refusal exactly, in its
+//! order, and that a refusal changes nothing. It stands on `cove_base`, for numbers and limits, and on the kit's
+//! `arrayvec`; it takes no memory.
+
+mod areas;
+mod kinds;
+mod regions;
+mod rows;
+
+pub use areas::Area;
+pub use kinds::AreaKind;
+pub use regions::{RegionFault, Regions, regions_law};
+
+#[cfg(test)]
+mod tests;
