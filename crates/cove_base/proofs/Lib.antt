@@ -5,4 +5,5 @@ pub mod JoinedWords
 pub mod LineLinkLemmas
 pub mod ScriptLimits
 pub mod StoreLemmas
+pub mod TableLemmas
 mod CompactEntryLemmas
