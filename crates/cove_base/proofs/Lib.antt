@@ -6,4 +6,6 @@ pub mod LineLinkLemmas
 pub mod ScriptLimits
 pub mod StoreLemmas
 pub mod TableLemmas
+pub mod TreeLemmas
+pub mod TreeStores
 mod CompactEntryLemmas

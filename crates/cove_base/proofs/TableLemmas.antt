@@ -1,4 +1,4 @@
-use Rattle.std.proofs.Common.{◌≡◌, ◌≢◌, ℕ, ◌+◌, ◌*◌, ◌/◌, ◌%◌, ◌<◌, ◌≤◌, ◌∙◌, ◌==◌, true, false, Bool, List, get_or, length, refl, sym, ap, subst, arith, inl, inr}
+use Rattle.std.proofs.Common.{◌≡◌, ◌≢◌, ℕ, ◌+◌, ◌*◌, ◌/◌, ◌%◌, ◌∙◌, List, get_or, refl, sym, ap, arith}
 use Rattle.cove_base.specs.Places.{table_word}
 use Rattle.cove_base.specs.Tables.{next_table, below, IsLink, NoTable, ATable}
 

@@ -1,8 +1,11 @@
-ghost use Rattle.std.specs.Prelude.{◌≡◌, ◌+◌, ◌*◌, ◌/◌, length, ◌%◌, ◌^◌, ◌<◌, ◌≤◌, ℕ};
+ghost use Rattle.std.specs.Prelude.{◌≡◌, ◌≢◌, ◌+◌, ◌*◌, ◌/◌, length, ◌%◌, ◌^◌, ◌<◌, ◌≤◌, ℕ};
 ghost use Rattle.cove_base.specs.Places.{table_word};
-ghost use Rattle.cove_base.specs.Tables.{below, entry_at, leaf_at, IsLeaf, IsLink, IsLinkSlot, IsTree};
+ghost use Rattle.cove_base.specs.Tables.{below, entry_at, InMiddle, leaf_at, IsLeaf, IsLink, IsLinkSlot, IsTree};
 ghost use Rattle.cove_base.specs.declared.limits.TheConstants.{PAGE_LIMIT};
 ghost use Rattle.cove_base.specs.Unchanged.{Unchanged};
+ghost use Rattle.cove_base.specs.Stores.{stored, AllAllowed};
+ghost use Rattle.cove_base.specs.TableWords.{blocked};
+ghost use Rattle.cove_stage2.specs.Changes.{ChangesLeaf, KeepsLinks, IsPresentLeaf, IsBlockedLeaf, unblocked, leaf_stores};
 ghost use Rattle.cove_stage2.specs.Entries.{leaf_word, IsWithin};
 ghost use Rattle.cove_stage2.specs.Lacked.{flag, slot_at, absent_among, tables_lacked};
 ghost use Rattle.cove_stage2.specs.Walks.{WalksTo};
@@ -36,9 +39,7 @@ impl Tables {
         ensures within { IsWithin result }
         ensures unchanged { Unchanged W.words W.clean W.guard w.old w.new }
     {
-        let n = (g.0 / 512) as u32;
-        let table = self.entry(w, Level::Middle, n);
-        decode(self.below(w, table, (g.0 % 512) as u32))
+        decode(self.leaf(w, g))
     }
 
     /// Walks to the leaf of a guest page, for a fetch or for an access to data, by at most three loads.
@@ -84,6 +85,94 @@ impl Tables {
             last / 0x4_0000 + 1 - first / 0x4_0000,
         );
         lacked + self.absent(w, Level::Middle, first / 512, last / 512 + 1 - first / 512)
+    }
+
+    /// Blocks a present leaf since a number.
+    pub fn block<W: Words>(&self, w: &mut W, g: Gpn, since: u64)
+        requires guest { g.0 < 2 ^ 29 }
+        requires since { since < 2 ^ 32 }
+        requires tree { IsTree self.now.pages self.now.root.0 (W.words w.old) }
+        requires present { IsPresentLeaf (leaf_at self.now.pages self.now.root.0 (W.words w.old) g.0) }
+        requires allowed { AllAllowed (W.allows (W.guard w.old)) (W.words w.old)
+            (leaf_stores self.now.pages self.now.root.0 (W.words w.old) g.0
+            (blocked (leaf_at self.now.pages self.now.root.0 (W.words w.old) g.0) since)) }
+        ensures stores { W.words w.new ≡ stored (W.words w.old)
+            (leaf_stores self.now.pages self.now.root.0 (W.words w.old) g.0
+            (blocked (leaf_at self.now.pages self.now.root.0 (W.words w.old) g.0) since)) }
+        ensures leaf { ChangesLeaf self.now.pages self.now.root.0 (W.words w.old) (W.words w.new) g.0
+            (blocked (leaf_at self.now.pages self.now.root.0 (W.words w.old) g.0) since) }
+        ensures links { KeepsLinks self.now.pages self.now.root.0 (W.words w.old) (W.words w.new) }
+        ensures guard { W.guard w.new ≡ W.guard w.old }
+    {
+        let leaf = self.leaf(w, g);
+        self.set_leaf(w, g, leaf + 0xFF + 0x400_0000 * since);
+    }
+
+    /// Makes a blocked leaf present again.
+    pub fn unblock<W: Words>(&self, w: &mut W, g: Gpn)
+        requires guest { g.0 < 2 ^ 29 }
+        requires tree { IsTree self.now.pages self.now.root.0 (W.words w.old) }
+        requires blocked { IsBlockedLeaf (leaf_at self.now.pages self.now.root.0 (W.words w.old) g.0) }
+        requires allowed { AllAllowed (W.allows (W.guard w.old)) (W.words w.old)
+            (leaf_stores self.now.pages self.now.root.0 (W.words w.old) g.0
+            (unblocked (leaf_at self.now.pages self.now.root.0 (W.words w.old) g.0))) }
+        ensures stores { W.words w.new ≡ stored (W.words w.old)
+            (leaf_stores self.now.pages self.now.root.0 (W.words w.old) g.0
+            (unblocked (leaf_at self.now.pages self.now.root.0 (W.words w.old) g.0))) }
+        ensures leaf { ChangesLeaf self.now.pages self.now.root.0 (W.words w.old) (W.words w.new) g.0
+            (unblocked (leaf_at self.now.pages self.now.root.0 (W.words w.old) g.0)) }
+        ensures links { KeepsLinks self.now.pages self.now.root.0 (W.words w.old) (W.words w.new) }
+        ensures guard { W.guard w.new ≡ W.guard w.old }
+    {
+        let leaf = self.leaf(w, g);
+        self.set_leaf(w, g, leaf % 0x400_0000 - 0xFF);
+    }
+
+    /// Removes a blocked leaf.
+    pub fn unmap<W: Words>(&self, w: &mut W, g: Gpn)
+        requires guest { g.0 < 2 ^ 29 }
+        requires tree { IsTree self.now.pages self.now.root.0 (W.words w.old) }
+        requires blocked { IsBlockedLeaf (leaf_at self.now.pages self.now.root.0 (W.words w.old) g.0) }
+        requires allowed { AllAllowed (W.allows (W.guard w.old)) (W.words w.old)
+            (leaf_stores self.now.pages self.now.root.0 (W.words w.old) g.0 0) }
+        ensures stores { W.words w.new ≡ stored (W.words w.old)
+            (leaf_stores self.now.pages self.now.root.0 (W.words w.old) g.0 0) }
+        ensures leaf { ChangesLeaf self.now.pages self.now.root.0 (W.words w.old) (W.words w.new) g.0 0 }
+        ensures links { KeepsLinks self.now.pages self.now.root.0 (W.words w.old) (W.words w.new) }
+        ensures guard { W.guard w.new ≡ W.guard w.old }
+    {
+        self.set_leaf(w, g, 0);
+    }
+
+    // stores a leaf where the way to its guest page is linked
+    fn set_leaf<W: Words>(&self, w: &mut W, g: Gpn, leaf: u64)
+        requires guest { g.0 < 2 ^ 29 }
+        requires leaf { IsLeaf leaf }
+        requires tree { IsTree self.now.pages self.now.root.0 (W.words w.old) }
+        requires linked { entry_at self.now.pages self.now.root.0 (W.words w.old) (InMiddle (g.0 / 512)) ≢ 0 }
+        requires allowed { AllAllowed (W.allows (W.guard w.old)) (W.words w.old)
+            (leaf_stores self.now.pages self.now.root.0 (W.words w.old) g.0 leaf) }
+        ensures stores { W.words w.new ≡ stored (W.words w.old)
+            (leaf_stores self.now.pages self.now.root.0 (W.words w.old) g.0 leaf) }
+        ensures leaf { ChangesLeaf self.now.pages self.now.root.0 (W.words w.old) (W.words w.new) g.0 leaf }
+        ensures links { KeepsLinks self.now.pages self.now.root.0 (W.words w.old) (W.words w.new) }
+        ensures guard { W.guard w.new ≡ W.guard w.old }
+    {
+        let table = self.entry(w, Level::Middle, (g.0 / 512) as u32);
+        let place = table_word(self.pages, Page((table / 1024) as u32), (g.0 % 512) as u32);
+        w.set(place, leaf);
+    }
+
+    // the word of a guest page's leaf
+    fn leaf<W: Words>(&self, w: &mut W, g: Gpn) -> u64
+        requires guest { g.0 < 2 ^ 29 }
+        requires tree { IsTree self.now.pages self.now.root.0 (W.words w.old) }
+        ensures leaf { result ≡ leaf_at self.now.pages self.now.root.0 (W.words w.old) g.0 }
+        ensures within { IsLeaf result }
+        ensures unchanged { Unchanged W.words W.clean W.guard w.old w.new }
+    {
+        let table = self.entry(w, Level::Middle, (g.0 / 512) as u32);
+        self.below(w, table, (g.0 % 512) as u32)
     }
 
     // how many of the k slots of a level from n on have no entry
