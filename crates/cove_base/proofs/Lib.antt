@@ -5,4 +5,7 @@ pub mod JoinedWords
 pub mod LineLinkLemmas
 pub mod ScriptLimits
 pub mod StoreLemmas
+pub mod TableLemmas
+pub mod TreeLemmas
+pub mod TreeStores
 mod CompactEntryLemmas

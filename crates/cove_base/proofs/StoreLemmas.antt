@@ -46,3 +46,10 @@ fills-rest first i n word h =
     let more : n - i ≡ suc (n - (i + 1)) = omega arith in
     let next : first + i + 1 ≡ first + (i + 1) = omega arith in
     ap (λ k. fills (first + i) k word) more ∙ ap (λ k. (first + i, word) ∷ fills k (n - (i + 1)) word) next
+
+-- of stores that are allowed and more after them, each part is allowed where it stands
+pub AllAllowed-split : (allows : List ℕ → ℕ → ℕ → Type 0) (words : List ℕ) (ss ts : List (ℕ × ℕ)) → AllAllowed allows words (ss ++ ts) → AllAllowed allows words ss × AllAllowed allows (stored words ss) ts
+AllAllowed-split allows words [] ts h = (tt, h)
+AllAllowed-split allows words (s ∷ ss) ts h =
+    let rest = AllAllowed-split allows (set words s.0 s.1) ss ts h.1 in
+    ((h.0, rest.0), rest.1)

@@ -23,5 +23,6 @@ pub mod Scripts
 pub mod Statuses
 pub mod Stores
 pub mod TableWords
+pub mod Tables
 pub mod Text
 pub mod Unchanged

@@ -1,0 +1,54 @@
+-- What a call that changes one leaf leaves of the tree.
+use Rattle.std.specs.Prelude.{◌≡◌, ◌≢◌, ℕ, ◌/◌, ◌-◌, ◌%◌, ◌^◌, ◌<◌, List, [], ◌∷◌, length, Bool}
+use Rattle.cove_base.specs.Places.{table_word}
+use Rattle.cove_base.specs.TableWords.{blocked}
+use Rattle.cove_base.specs.Tables.{Slot, InRoot, InMiddle, InLast, IsLinkSlot, entry_at, leaf_at, next_table, present, IsTree, IsSpare}
+
+-- the words are a tree in which the leaf of one guest page is this one, and every other leaf is as it was
+pub record ChangesLeaf (pages root : ℕ) (old new : List ℕ) (g leaf : ℕ) : Type 0 where
+  pub tree : IsTree pages root new
+  pub here : leaf_at pages root new g ≡ leaf
+  pub others : (h : ℕ) → h < 2 ^ 29 → h ≢ g → leaf_at pages root new h ≡ leaf_at pages root old h
+  pub length : length new ≡ length old
+
+-- every slot of the upper two levels is as it was, and every spare page is spare still
+pub record KeepsLinks (pages root : ℕ) (old new : List ℕ) : Type 0 where
+  pub links : (a : Slot) → IsLinkSlot a → entry_at pages root new a ≡ entry_at pages root old a
+  pub spare : (page : ℕ) → IsSpare pages root old page → IsSpare pages root new page
+
+-- the two slots on the way to a guest page name tables, every table stays where it was, and no other slot changes
+pub record NamesWay (pages root : ℕ) (old new : List ℕ) (g : ℕ) : Type 0 where
+  pub upper : (page : ℕ) × (entry_at pages root new (InRoot (g / 512 / 512)) ≡ next_table page)
+  pub lower : (page : ℕ) × (entry_at pages root new (InMiddle (g / 512)) ≡ next_table page)
+  pub kept :
+      (a : Slot) → IsLinkSlot a → entry_at pages root old a ≢ 0
+      → entry_at pages root new a ≡ entry_at pages root old a
+  pub others :
+      (a : Slot) → IsLinkSlot a → a ≢ InRoot (g / 512 / 512) → a ≢ InMiddle (g / 512)
+      → entry_at pages root new a ≡ entry_at pages root old a
+
+-- a leaf is present
+abbrev pub IsPresentLeaf : (leaf : ℕ) → Type 0
+IsPresentLeaf leaf = (page : ℕ) × (shared : Bool) × (page < 2 ^ 16) × (leaf ≡ present page shared)
+
+-- a leaf is blocked
+abbrev pub IsBlockedLeaf : (leaf : ℕ) → Type 0
+IsBlockedLeaf leaf =
+    (page : ℕ) × (shared : Bool) × (since : ℕ) × (page < 2 ^ 16) × (since < 2 ^ 32)
+    × (leaf ≡ blocked (present page shared) since)
+
+-- a blocked leaf as it was before it was blocked
+abbrev pub unblocked : (leaf : ℕ) → ℕ
+unblocked leaf = leaf % 2 ^ 26 - 0xFF
+
+-- where the word of a slot stands, where the slot above it names a table
+abbrev pub slot_place : (pages root : ℕ) (words : List ℕ) → Slot → ℕ
+slot_place pages root words (InRoot n) = table_word pages root n
+slot_place pages root words (InMiddle n) =
+    table_word pages (entry_at pages root words (InRoot (n / 512)) / 1024) (n % 512)
+slot_place pages root words (InLast g) =
+    table_word pages (entry_at pages root words (InMiddle (g / 512)) / 1024) (g % 512)
+
+-- the one store of a leaf
+abbrev pub leaf_stores : (pages root : ℕ) (words : List ℕ) (g leaf : ℕ) → List (ℕ × ℕ)
+leaf_stores pages root words g leaf = (slot_place pages root words (InLast g), leaf) ∷ []

@@ -1,0 +1,31 @@
+use Rattle.std.specs.Prelude.{ℕ, zero, suc, ◌+◌, ◌-◌, ◌/◌, ◌^◌, ◌==◌, Bool, true, false, List}
+use Rattle.cove_base.specs.Tables.{Slot, InRoot, InMiddle, entry_at}
+use Rattle.cove_stage2.specs.declared.tables.Level.{Level}
+use Rattle.cove_stage2.specs.declared.tables.Level.TheVariants.{Root, Middle}
+
+-- 1 for true, 0 for false
+abbrev pub flag : Bool → ℕ
+flag true = 1
+flag false = 0
+
+-- a slot of one of the upper two levels
+abbrev pub slot_at : Level → ℕ → Slot
+slot_at Root n = InRoot n
+slot_at Middle n = InMiddle n
+
+-- how many of the k slots of a level from n on have no entry
+abbrev pub absent_among : (pages root : ℕ) (words : List ℕ) → Level → (n k : ℕ) → ℕ
+absent_among pages root words level n zero = 0
+absent_among pages root words level n (suc k) =
+    flag (entry_at pages root words (slot_at level n) == 0) + absent_among pages root words level (n + 1) k
+
+-- how many blocks of as many guest pages a run touches
+abbrev pub blocks_touched : (size first count : ℕ) → ℕ
+blocks_touched size first zero = 0
+blocks_touched size first (suc more) = (first + more) / size + 1 - first / size
+
+-- how many tables are missing for mappings of a run of guest pages: those of each level, each counted once
+abbrev pub tables_lacked : (pages root : ℕ) (words : List ℕ) (first count : ℕ) → ℕ
+tables_lacked pages root words first count =
+    absent_among pages root words Root (first / 2 ^ 18) (blocks_touched (2 ^ 18) first count)
+    + absent_among pages root words Middle (first / 512) (blocks_touched 512 first count)

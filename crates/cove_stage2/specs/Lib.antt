@@ -1,0 +1,5 @@
+pub mod Changes
+pub mod Entries
+pub mod Lacked
+pub mod MapStores
+pub mod Walks

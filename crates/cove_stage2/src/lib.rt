@@ -1,0 +1,12 @@
+#![tactic(auto)]
+//! Second-stage tables over the shared words: three levels of pages that map the guest pages of a TVM to its leaves.
+//!
+//! Each call that reads leaves the words, and says what it reads by the definitions of cove_base: `find` gives the
+//! leaf of a guest page, `walk` comes to the page of the same leaf in at most three loads, and `need` counts the
+//! tables that a run of mappings lacks. It stands on `Words` alone.
+
+mod entries;
+mod tables;
+
+pub use entries::{Leaf, TableEntry, decode_entry, encode};
+pub use tables::Tables;

@@ -1,0 +1,248 @@
+ghost use Rattle.std.specs.Prelude.{◌≡◌, ◌≢◌, ◌+◌, ◌*◌, ◌/◌, length, ◌%◌, ◌^◌, ◌<◌, ◌≤◌, ℕ};
+ghost use Rattle.cove_base.specs.Places.{table_word};
+ghost use Rattle.cove_base.specs.Tables.{below, entry_at, InMiddle, leaf_at, IsLeaf, IsLink, IsLinkSlot, IsTree};
+ghost use Rattle.cove_base.specs.declared.limits.TheConstants.{PAGE_LIMIT};
+ghost use Rattle.cove_base.specs.Unchanged.{Unchanged};
+ghost use Rattle.cove_base.specs.Stores.{stored, AllAllowed};
+ghost use Rattle.cove_base.specs.TableWords.{blocked};
+ghost use Rattle.cove_stage2.specs.Changes.{ChangesLeaf, KeepsLinks, IsPresentLeaf, IsBlockedLeaf, unblocked, leaf_stores};
+ghost use Rattle.cove_stage2.specs.Entries.{leaf_word, IsWithin};
+ghost use Rattle.cove_stage2.specs.Lacked.{flag, slot_at, absent_among, tables_lacked};
+ghost use Rattle.cove_stage2.specs.Walks.{WalksTo};
+
+use crate::entries::{Leaf, decode};
+use cove_base::{Gpn, PAGE_LIMIT, Page, Steps, Walked, Words, table_word};
+use std::sync::ledger::Ledger;
+
+/// The upper two levels, whose entries name tables.
+#[derive(Clone, Copy)]
+enum Level {
+    Root,
+    Middle,
+}
+
+/// The tables of a TVM: where its root begins, and how many pages the board has.
+#[derive(Clone, Copy)]
+pub struct Tables {
+    pub root: Page,
+    pub pages: u32,
+    pub ghost limit: { pages ≤ PAGE_LIMIT },
+}
+
+impl Tables {
+    /// The leaf of a guest page.
+    pub fn find<W: Words>(&self, w: &mut W, g: Gpn) -> Leaf
+        requires guest { g.0 < 2 ^ 29 }
+        requires tree { IsTree self.now.pages self.now.root.0 (W.words w.old) }
+        ensures leaf { leaf_word result
+            ≡ leaf_at self.now.pages self.now.root.0 (W.words w.old) g.0 }
+        ensures within { IsWithin result }
+        ensures unchanged { Unchanged W.words W.clean W.guard w.old w.new }
+    {
+        decode(self.leaf(w, g))
+    }
+
+    /// Walks to the leaf of a guest page, for a fetch or for an access to data, by at most three loads.
+    pub fn walk<W: Words, L: Ledger>(
+        &self,
+        w: &mut W,
+        g: Gpn,
+        fetch: bool,
+        steps: &mut Steps<L>,
+    ) -> Walked
+        requires guest { g.0 < 2 ^ 29 }
+        requires tree { IsTree self.now.pages self.now.root.0 (W.words w.old) }
+        ensures walked { WalksTo fetch (leaf_at self.now.pages self.now.root.0 (W.words w.old) g.0) result }
+        ensures steps { steps.new ≤ steps.old + 3 }
+        ensures unchanged { Unchanged W.words W.clean W.guard w.old w.new }
+    {
+        let n = (g.0 / 512) as u32;
+        steps.tick();
+        let middle = w.get(self.root_word(n / 512));
+        steps.tick();
+        let last = self.below(w, middle, n % 512);
+        steps.tick();
+        let leaf = self.below(w, last, (g.0 % 512) as u32);
+        walked(fetch, leaf)
+    }
+
+    /// How many tables are missing for mappings of a run of guest pages.
+    pub fn need<W: Words>(&self, w: &mut W, first: Gpn, count: u32) -> u32
+        requires guests { first.0 + count ≤ 2 ^ 29 }
+        requires tree { IsTree self.now.pages self.now.root.0 (W.words w.old) }
+        ensures lacked { result ≡ tables_lacked self.now.pages self.now.root.0 (W.words w.old) first.0 count }
+        ensures unchanged { Unchanged W.words W.clean W.guard w.old w.new }
+    {
+        if count == 0 {
+            return 0;
+        }
+        let first = first.0 as u32;
+        let last = first + (count - 1);
+        let lacked = self.absent(
+            w,
+            Level::Root,
+            first / 0x4_0000,
+            last / 0x4_0000 + 1 - first / 0x4_0000,
+        );
+        lacked + self.absent(w, Level::Middle, first / 512, last / 512 + 1 - first / 512)
+    }
+
+    /// Blocks a present leaf since a number.
+    pub fn block<W: Words>(&self, w: &mut W, g: Gpn, since: u64)
+        requires guest { g.0 < 2 ^ 29 }
+        requires since { since < 2 ^ 32 }
+        requires tree { IsTree self.now.pages self.now.root.0 (W.words w.old) }
+        requires present { IsPresentLeaf (leaf_at self.now.pages self.now.root.0 (W.words w.old) g.0) }
+        requires allowed { AllAllowed (W.allows (W.guard w.old)) (W.words w.old)
+            (leaf_stores self.now.pages self.now.root.0 (W.words w.old) g.0
+            (blocked (leaf_at self.now.pages self.now.root.0 (W.words w.old) g.0) since)) }
+        ensures stores { W.words w.new ≡ stored (W.words w.old)
+            (leaf_stores self.now.pages self.now.root.0 (W.words w.old) g.0
+            (blocked (leaf_at self.now.pages self.now.root.0 (W.words w.old) g.0) since)) }
+        ensures leaf { ChangesLeaf self.now.pages self.now.root.0 (W.words w.old) (W.words w.new) g.0
+            (blocked (leaf_at self.now.pages self.now.root.0 (W.words w.old) g.0) since) }
+        ensures links { KeepsLinks self.now.pages self.now.root.0 (W.words w.old) (W.words w.new) }
+        ensures guard { W.guard w.new ≡ W.guard w.old }
+    {
+        let leaf = self.leaf(w, g);
+        self.set_leaf(w, g, leaf + 0xFF + 0x400_0000 * since);
+    }
+
+    /// Makes a blocked leaf present again.
+    pub fn unblock<W: Words>(&self, w: &mut W, g: Gpn)
+        requires guest { g.0 < 2 ^ 29 }
+        requires tree { IsTree self.now.pages self.now.root.0 (W.words w.old) }
+        requires blocked { IsBlockedLeaf (leaf_at self.now.pages self.now.root.0 (W.words w.old) g.0) }
+        requires allowed { AllAllowed (W.allows (W.guard w.old)) (W.words w.old)
+            (leaf_stores self.now.pages self.now.root.0 (W.words w.old) g.0
+            (unblocked (leaf_at self.now.pages self.now.root.0 (W.words w.old) g.0))) }
+        ensures stores { W.words w.new ≡ stored (W.words w.old)
+            (leaf_stores self.now.pages self.now.root.0 (W.words w.old) g.0
+            (unblocked (leaf_at self.now.pages self.now.root.0 (W.words w.old) g.0))) }
+        ensures leaf { ChangesLeaf self.now.pages self.now.root.0 (W.words w.old) (W.words w.new) g.0
+            (unblocked (leaf_at self.now.pages self.now.root.0 (W.words w.old) g.0)) }
+        ensures links { KeepsLinks self.now.pages self.now.root.0 (W.words w.old) (W.words w.new) }
+        ensures guard { W.guard w.new ≡ W.guard w.old }
+    {
+        let leaf = self.leaf(w, g);
+        self.set_leaf(w, g, leaf % 0x400_0000 - 0xFF);
+    }
+
+    /// Removes a blocked leaf.
+    pub fn unmap<W: Words>(&self, w: &mut W, g: Gpn)
+        requires guest { g.0 < 2 ^ 29 }
+        requires tree { IsTree self.now.pages self.now.root.0 (W.words w.old) }
+        requires blocked { IsBlockedLeaf (leaf_at self.now.pages self.now.root.0 (W.words w.old) g.0) }
+        requires allowed { AllAllowed (W.allows (W.guard w.old)) (W.words w.old)
+            (leaf_stores self.now.pages self.now.root.0 (W.words w.old) g.0 0) }
+        ensures stores { W.words w.new ≡ stored (W.words w.old)
+            (leaf_stores self.now.pages self.now.root.0 (W.words w.old) g.0 0) }
+        ensures leaf { ChangesLeaf self.now.pages self.now.root.0 (W.words w.old) (W.words w.new) g.0 0 }
+        ensures links { KeepsLinks self.now.pages self.now.root.0 (W.words w.old) (W.words w.new) }
+        ensures guard { W.guard w.new ≡ W.guard w.old }
+    {
+        self.set_leaf(w, g, 0);
+    }
+
+    // stores a leaf where the way to its guest page is linked
+    fn set_leaf<W: Words>(&self, w: &mut W, g: Gpn, leaf: u64)
+        requires guest { g.0 < 2 ^ 29 }
+        requires leaf { IsLeaf leaf }
+        requires tree { IsTree self.now.pages self.now.root.0 (W.words w.old) }
+        requires linked { entry_at self.now.pages self.now.root.0 (W.words w.old) (InMiddle (g.0 / 512)) ≢ 0 }
+        requires allowed { AllAllowed (W.allows (W.guard w.old)) (W.words w.old)
+            (leaf_stores self.now.pages self.now.root.0 (W.words w.old) g.0 leaf) }
+        ensures stores { W.words w.new ≡ stored (W.words w.old)
+            (leaf_stores self.now.pages self.now.root.0 (W.words w.old) g.0 leaf) }
+        ensures leaf { ChangesLeaf self.now.pages self.now.root.0 (W.words w.old) (W.words w.new) g.0 leaf }
+        ensures links { KeepsLinks self.now.pages self.now.root.0 (W.words w.old) (W.words w.new) }
+        ensures guard { W.guard w.new ≡ W.guard w.old }
+    {
+        let table = self.entry(w, Level::Middle, (g.0 / 512) as u32);
+        let place = table_word(self.pages, Page((table / 1024) as u32), (g.0 % 512) as u32);
+        w.set(place, leaf);
+    }
+
+    // the word of a guest page's leaf
+    fn leaf<W: Words>(&self, w: &mut W, g: Gpn) -> u64
+        requires guest { g.0 < 2 ^ 29 }
+        requires tree { IsTree self.now.pages self.now.root.0 (W.words w.old) }
+        ensures leaf { result ≡ leaf_at self.now.pages self.now.root.0 (W.words w.old) g.0 }
+        ensures within { IsLeaf result }
+        ensures unchanged { Unchanged W.words W.clean W.guard w.old w.new }
+    {
+        let table = self.entry(w, Level::Middle, (g.0 / 512) as u32);
+        self.below(w, table, (g.0 % 512) as u32)
+    }
+
+    // how many of the k slots of a level from n on have no entry
+    fn absent<W: Words>(&self, w: &mut W, level: Level, n: u32, k: u32) -> u32
+        requires slots { (i : ℕ) → i < k → IsLinkSlot (slot_at level (n + i)) }
+        requires tree { IsTree self.now.pages self.now.root.0 (W.words w.old) }
+        ensures absent { result ≡ absent_among self.now.pages self.now.root.0 (W.words w.old) level n k }
+        ensures most { result ≤ k }
+        ensures unchanged { Unchanged W.words W.clean W.guard w.old w.new }
+    {
+        let mut absent = 0;
+        for i in 0..k {
+            absent += flag(self.entry(w, level, n + i) == 0);
+        }
+        absent
+    }
+
+    // the entry of a slot
+    fn entry<W: Words>(&self, w: &mut W, level: Level, n: u32) -> u64
+        requires slot { IsLinkSlot (slot_at level n) }
+        requires tree { IsTree self.now.pages self.now.root.0 (W.words w.old) }
+        ensures entry { result ≡ entry_at self.now.pages self.now.root.0 (W.words w.old) (slot_at level n) }
+        ensures unchanged { Unchanged W.words W.clean W.guard w.old w.new }
+    {
+        match level {
+            Level::Root => w.get(self.root_word(n)),
+            Level::Middle => {
+                let table = w.get(self.root_word(n / 512));
+                self.below(w, table, n % 512)
+            }
+        }
+    }
+
+    // the entry at i of the table that an entry names, or 0
+    fn below<W: Words>(&self, w: &mut W, entry: u64, i: u32) -> u64
+        requires word { i < 512 }
+        requires size { 513 * self.now.pages ≤ length (W.words w.old) }
+        requires link { IsLink self.now.pages self.now.root.0 entry }
+        ensures entry { result ≡ below self.now.pages (W.words w.old) entry i }
+        ensures unchanged { Unchanged W.words W.clean W.guard w.old w.new }
+    {
+        if entry == 0 {
+            0
+        } else {
+            w.get(table_word(self.pages, Page((entry / 1024) as u32), i))
+        }
+    }
+
+    // where an entry of the root stands
+    fn root_word(&self, n: u32) -> u32
+        requires slot { n < 2048 }
+        requires root { self.now.root.0 + 4 ≤ self.now.pages }
+        ensures { result ≡ table_word self.now.pages self.now.root.0 n }
+    {
+        table_word(self.pages, Page(self.root.0 + n / 512), n % 512)
+    }
+}
+
+fn walked(fetch: bool, word: u64) -> Walked
+    requires { IsLeaf word }
+    ensures { WalksTo fetch word result }
+{
+    match decode(word) {
+        Leaf::Present { page, shared } if !(fetch && shared) => Walked::Found(page),
+        _ => Walked::Missing(word),
+    }
+}
+
+fn flag(b: bool) -> u32
+    ensures { result ≡ flag b }
+{
+    if b { 1 } else { 0 }
+}
