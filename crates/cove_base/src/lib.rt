@@ -19,6 +19,7 @@ mod registers;
 mod script_lines;
 mod scripts;
 mod statuses;
+mod steps;
 mod stores;
 #[cfg(test)]
 mod tests;
@@ -48,6 +49,7 @@ pub use registers::Regs;
 pub use script_lines::Lines;
 pub use scripts::{Fill, Line, Script, ScriptLine};
 pub use statuses::{Reply, Status};
+pub use steps::Steps;
 pub use stores::stores_law;
-pub use walks::{Noted, Target};
+pub use walks::{Noted, Target, walked_to};
 pub use words::{Plain, Words};

@@ -53,7 +53,7 @@ other_store pages words other place word p off apart may =
     (subst (IsUsableWord (answered_in pages words other)) (sym (get_or-set_other words place p word 0 off)) may)
 
 module _ (pages harts : ℕ) (tables : ℕ → Tables) (hart : ℕ) (old words : List ℕ) (place word : ℕ) (size : length words ≡ all_words pages harts) where
-  keep_usable : (other p : ℕ) → AnswersWithin pages harts words → other < harts → other ≢ hart → p < pages → IsLawful pages harts tables hart old words place word → MayUse pages words other p → MayUse pages (set words place word) other p
+  keep_usable : (other p : ℕ) → AnswersWithin pages harts words → other < harts → answered_word pages other ≢ place → p < pages → IsLawful pages harts tables hart old words place word → MayUse pages words other p → MayUse pages (set words place word) other p
   keep_usable other p within on ne inside (Counts page before after is at was new few) may =
       subst (λ q. MayUse pages (set words q word) other p) (sym at)
       (page_store pages words other page word p is inside (omega arith) (λ e u. inl (after, new)) may)
@@ -74,12 +74,10 @@ module _ (pages harts : ℕ) (tables : ℕ → Tables) (hart : ℕ) (old words :
       (page_store pages words other page word p is inside (omega arith) (λ e u. absurd (usable_given (answered_in pages words other) (get_or words page 0) tvm Data u (ap (λ q. get_or words q 0) (sym at) ∙ was))) may)
   keep_usable other p within on ne inside (Answers is at new) may =
       let off : p ≢ place = omega arith in
-      let apart : answered_word pages other ≢ place = omega arith in
-      other_store pages words other place word p off apart may
+      other_store pages words other place word p off ne may
   keep_usable other p within on ne inside (Begins at room new all) may =
       let off : p ≢ place = omega arith in
-      let apart : answered_word pages other ≢ place = omega arith in
-      other_store pages words other place word p off apart may
+      other_store pages words other place word p off ne may
 
   -- the word of a page after a store of the word of a page
   host_store : (page p : ℕ) → page < pages → p < pages → place ≡ page → IsHostWord (get_or words p 0) → (page ≡ p → IsHostWord word ⊎ (get_or old p 0 ≡ host 0)) → IsHostWord (get_or (set words place word) p 0) ⊎ (get_or old p 0 ≡ host 0)
@@ -190,6 +188,16 @@ numbers_apart {pages} {harts} {tables} {hart} {old} {words} {place} {word} lawfu
   | inl page ↦ omega arith
   | inr rest ↦ elim rest [
     | inl own ↦ let at : place ≡ answered_word pages hart = own.0 in let on : hart < harts = own.1 in omega arith
+    | inr begun ↦ let at : place ≡ epoch_word pages = begun.0 in omega arith
+  ]
+]
+
+-- a lawful store is none of the answered number of another hart
+pub answers_apart : {pages harts : ℕ} {tables : ℕ → Tables} {hart : ℕ} {old words : List ℕ} {place word : ℕ} → IsLawful pages harts tables hart old words place word → (other : ℕ) → other < harts → other ≢ hart → answered_word pages other ≢ place
+answers_apart {pages} {harts} {tables} {hart} {old} {words} {place} {word} lawful other on ne = elim (page_of lawful) [
+  | inl page ↦ omega arith
+  | inr rest ↦ elim rest [
+    | inl own ↦ let at : place ≡ answered_word pages hart = own.0 in omega arith
     | inr begun ↦ let at : place ≡ epoch_word pages = begun.0 in omega arith
   ]
 ]
