@@ -17,8 +17,8 @@ use crate::ground::Ground;
 use cove_base::{Event, HostCall, How, Line, Page, Status, Target, Walked, Words};
 use cove_hart::HartState;
 use cove_mem::Memory;
-use cove_tlb::Rings;
 use cove_owner::{PageState, state};
+use cove_tlb::Rings;
 
 /// How a hart comes to the page of its next line.
 #[derive(Clone, Copy)]
