@@ -1,0 +1,4 @@
+mod Seating
+mod Ruling
+mod Moving
+mod Allowing
