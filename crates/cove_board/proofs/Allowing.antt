@@ -9,7 +9,7 @@ use Rattle.cove_board.proofs.Ruling.{both_step, deal_step, has_hart, has_monitor
 use Rattle.cove_board.specs.Parts.{HartPart, MonitorPart, Part, both, counted_monitor, counted_part, dealt_monitor, hart_alone, hart_of, left_part, loaded_part, monitor_alone, monitor_of, new_part, spent, stored_monitor, stored_part, walked_part}
 use Rattle.cove_board.specs.Plays.{Counts, Knows, Loads, Stores, Walks}
 use Rattle.cove_board.specs.Ruled.{Holds, IsMonitor, IsPart, IsRuled}
-use Rattle.cove_model.specs.LawfulCounts.{IsCountable}
+use Rattle.cove_model.specs.LawfulCounts.{IsCountable, counted}
 use Rattle.cove_model.specs.LawfulStores.{IsLawful, no_tables}
 use lib.ListN.{get_elem?}
 use mathlib.Core.Option.{none, some}
@@ -117,15 +117,17 @@ stores_allowed script slots id place word me carries lawful s ruled homes at sma
       refl,
     )
 
-pub counts_allowed : (script : ScriptValue) (slots id count : ℕ) (entry : Entry) (me : Me Entry Part) → me.0 ≡ both (monitor_of me.0) (hart_of me.0)
-    → count ≡ get_or (monitor_of me.0).now (count_word (monitor_of me.0).script.pages (monitor_of me.0).script.harts) 0
+-- the words of the monitor's part after the count
+abbrev counted_now : MonitorPart → List ℕ
+counted_now m = counted m.script.pages m.script.harts m.now
+
+pub counts_allowed : (script : ScriptValue) (slots id place count : ℕ) (entry : Entry) (me : Me Entry Part) → me.0 ≡ both (monitor_of me.0) (hart_of me.0)
+    → place ≡ count_word (monitor_of me.0).script.pages (monitor_of me.0).script.harts → count ≡ get_or (monitor_of me.0).now place 0
     → IsCountable (monitor_of me.0).script (monitor_of me.0).history (hart_of me.0).hart (monitor_of me.0).now entry
-    → Allows (Holds script) slots id me (count_word (monitor_of me.0).script.pages (monitor_of me.0).script.harts) (λ n. either (eqb n count) (count + 1) n)
-    (Counts (step slots (count_word (monitor_of me.0).script.pages (monitor_of me.0).script.harts) count (count + 1) (some entry)) me)
-counts_allowed script slots id count entry me carries is countable s ruled homes at small =
+    → Allows (Holds script) slots id me place (λ n. either (eqb n count) (count + 1) n) (Counts (step slots place count (count + 1) (some entry)) me)
+counts_allowed script slots id place count entry me carries at_count is countable s ruled homes at small =
     let m = monitor_of me.0 in
     let p = hart_of me.0 in
-    let place = count_word m.script.pages m.script.harts in
     let there : get_elem? s.views id ≡ some (both m p) = at ∙ ap some carries in
     let monitor = held_monitor script s ruled id place m p there in
     let right = held_part script s ruled id place m p there in
@@ -136,7 +138,8 @@ counts_allowed script slots id count entry me carries is countable s ruled homes
     let own_monitor = subst (λ k. IsMonitor k m) (sym same) monitor in
     let own_part = subst (λ k. IsPart k m.history m.now p) (sym same) right in
     let own_ruled = subst (λ k. IsRuled k s.words s.views) (sym same) ruled in
-    let stands : IsRuled m.script (counted_monitor entry m).now next = both_step m.script s.words s.views id m (counted_monitor entry m) p (counted_part entry m p) own_ruled there refl refl
+    let counts : counted_now m ≡ set m.now place (get_or m.now place 0 + 1) = ap (λ i. set m.now i (get_or m.now i 0 + 1)) (sym at_count) in
+    let stands : IsRuled m.script (counted_now m) next = both_step m.script s.words s.views id m (counted_monitor entry m) p (counted_part entry m p) own_ruled there refl refl
     (count_monitor m p entry own_monitor own_part countable)
     (count_part m p entry own_monitor own_part countable)
     (count_others m p entry own_monitor own_part countable) in
@@ -145,7 +148,7 @@ counts_allowed script slots id count entry me carries is countable s ruled homes
       keeps,
       tt,
       subst (λ n. IsRuled script (set s.words place n) next) (sym raised)
-          (subst (λ ws. IsRuled script (set ws place (get_or m.now place 0 + 1)) next) (sym words) (subst (λ k. IsRuled k (counted_monitor entry m).now next) same stands)),
+          (subst (λ ws. IsRuled script (set ws place (get_or m.now place 0 + 1)) next) (sym words) (subst (λ ws. IsRuled script ws next) counts (subst (λ k. IsRuled k (counted_now m) next) same stands))),
       refl,
     )
 

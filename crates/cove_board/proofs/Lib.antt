@@ -2,3 +2,5 @@ mod Seating
 mod Ruling
 mod Moving
 mod Allowing
+mod Holding
+mod Opening

@@ -66,6 +66,10 @@ opening_part script =
     let zeros = replicate (all_words script.pages script.harts) 0 in
     record { script = script; history = []; old = zeros; now = zeros; clean = true; dealt = 0 }
 
+-- and as it is where this many parts are dealt
+abbrev pub dealt_part : ScriptValue → (harts : ℕ) → MonitorPart
+dealt_part script harts = record (opening_part script) { dealt = harts }
+
 -- a hart's part as it is dealt
 abbrev pub new_part : ScriptValue → (hart : ℕ) → HartPart
 new_part script hart = record {

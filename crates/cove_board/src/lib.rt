@@ -5,9 +5,11 @@
 //! definitions of `cove_model`; the steps are those of the kit's `atomic_table`.
 
 mod boards;
+mod held;
 mod passes;
 mod views;
 
-pub use boards::Board;
+pub use boards::{Board, Boarded};
+pub use held::Held;
 pub use passes::{Pass, Passes};
 pub use views::{BoardRule, View};
