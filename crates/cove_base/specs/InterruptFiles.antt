@@ -1,6 +1,6 @@
 -- An interrupt file: which identities are pending, which are enabled, and the registers that a guest reaches it by, a
 -- part of those that the RISC-V Advanced Interrupt Architecture gives to an IMSIC's files.
-use Rattle.std.specs.Prelude.{ℕ, ◌+◌, ◌*◌, ◌%◌, ◌^◌, ◌==◌, ◌&&◌, ◌||◌, Bool, true, false, not, nat_lt, List, [], filter, find, sum_by, Option, Some, None, unwrap_or, bit_or, bit_and, if◌then◌else◌}
+use Rattle.std.specs.Prelude.{ℕ, ◌+◌, ◌*◌, ◌%◌, ◌^◌, ◌==◌, ◌&&◌, ◌||◌, Bool, false, not, nat_lt, List, [], filter, find, sum_by, Option, Some, None, unwrap_or, bit_or, bit_and, if◌then◌else◌}
 use Rattle.std.specs.Int.{w64, bit_at, bit_not}
 use Rattle.std.specs.List.{list_any, range_with_len}
 use Rattle.std.specs.Option.{option_map, option_map_or}

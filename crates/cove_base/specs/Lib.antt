@@ -8,6 +8,7 @@ pub mod Guards
 pub mod HartLines
 pub mod HartPlaces
 pub mod HartValues
+pub mod HostWalks
 pub mod Hmac
 pub mod Instructions
 pub mod InterruptFiles

@@ -51,5 +51,5 @@ pub use scripts::{Fill, Line, Script, ScriptLine};
 pub use statuses::{Reply, Status};
 pub use steps::Steps;
 pub use stores::stores_law;
-pub use walks::{Noted, Target};
+pub use walks::{Noted, Target, walked_to};
 pub use words::{Plain, Words};

@@ -29,6 +29,7 @@ use Rattle.cove_base.specs.declared.walks.Noted.{Noted}
 use Rattle.cove_base.specs.declared.walks.Target.TheVariants as targets
 use Rattle.cove_core.proofs.BoardLemmas.{kept_page_words}
 use Rattle.cove_core.proofs.Performing.{absent_now, not_true, reached_rightly, told_rightly, walk_is}
+use Rattle.cove_model.proofs.AloneProofs.{fits_fit_alone}
 use Rattle.cove_core.proofs.Walking.{sought as sought_walk, unwalked_now, wanted, wanted_below}
 use Rattle.cove_core.specs.Kept.{IsKept}
 use Rattle.cove_core.specs.Made.{IsMade, IsTold, IsWithinReach}
@@ -276,7 +277,7 @@ walk_turned script within words mon kept held left fits phase is_walked l next r
   takes = takes;
   still = λ no. absurd (false≢true (sym no));
   moved = λ moves play e mine same.
-      let none = unwalked_now script mon.history held is_walked.page.0 fits (wanted script held phase is_walked.page is_walked.needed) in
+      let none = unwalked_now script mon.history held is_walked.page.0 (fits_fit_alone script mon.history held fits) (wanted script held phase is_walked.page is_walked.needed) in
       walk_is_noted (is_found is_walked.walked)
       (ap (λ (v : HartValue). note_of v.walked) (sym is_walked.left_is) ∙ sym (takes play e mine).own ∙ ap (λ (p : Play). p.notes held.hart) same ∙ mine ∙ ap note_of none);
 }
@@ -291,8 +292,9 @@ walk_turned script within words mon kept held left fits phase is_walked l next r
         let S = after script mon.history in
         let play : Play = record { history = mon.history; notes = notes } in
         let want = wanted script held phase is_walked.page is_walked.needed in
-        let none = unwalked_now script mon.history held p fits want in
-        let sought_it = sought_walk script mon.history held p fits want none in
+        let alone = fits_fit_alone script mon.history held fits in
+        let none = unwalked_now script mon.history held p alone want in
+        let sought_it = sought_walk script mon.history held p alone want none in
         let below = wanted_below script within held p fits.stands want in
         let same : l ≡ want.line = same_Some l want.line (sym next ∙ want.next) in
         let empty = empty_after script mon.history in

@@ -30,7 +30,10 @@ use Rattle.cove_model.proofs.Playing.{was_now}
 use Rattle.cove_model.proofs.Unbuilt.{outside_after}
 use Rattle.cove_model.specs.Aims.{aimed_at, next_aim}
 use Rattle.cove_model.proofs.ToldProofs.{words_tell_host}
-use Rattle.cove_model.specs.Fits.{Fits, IsSought, UnusedFits, WalkFits, rings_of, walked_rings}
+use Rattle.cove_core.specs.KeptRule.{NeededWalksLeaveAlone}
+use Rattle.cove_model.proofs.AloneProofs.{fits_fit_alone, walks_leave_alone}
+use Rattle.cove_model.specs.Fits.{Fits, IsSought, rings_of, walked_rings}
+use Rattle.cove_model.specs.FitsAlone.{FitsAlone, UnusedSought}
 use Rattle.cove_model.specs.Histories.{after}
 use Rattle.cove_model.specs.Owners.{has, is_host, page_at}
 use Rattle.cove_model.specs.Translations.{tlb}
@@ -88,21 +91,20 @@ wanted_below script within held p place want =
 
 -- ---- the hart goes on fitting
 
-pub unwalked_now : (script : ScriptValue) (H : List Entry) (held : HartValue) (p : ℕ) → Fits script H held → IsWanted script held p → held.walked ≡ None
+pub unwalked_now : (script : ScriptValue) (H : List Entry) (held : HartValue) (p : ℕ) → FitsAlone script H held → IsWanted script held p → held.walked ≡ None
 unwalked_now script H held p fits want = go held.walked fits.walk want.unwalked
   where
     off : (t : Target) (w : Walked) → t ≡ host_at p → has_walked_to (Some (record { target = t; walked = w })) p ≡ false → ⊥
     off t w same lacks = false≢true (sym lacks ∙ ap (λ (k : Target). has_walked_to (Some (record { target = k; walked = w })) p) same ∙ eq-eqb p p refl)
 
-    unfit : (target : Target) (w : Walked) → WalkFits script H held.hart target w → has_walked_to (Some (record { target = target; walked = w })) p ≡ false → ⊥
-    unfit target (walks.Found page) f = off target (walks.Found page) (target_is script H held.hart held.ended fits.counts want.line want.next p want.asks target f.0)
-    unfit target (walks.Missing word) f = off target (walks.Missing word) (target_is script H held.hart held.ended fits.counts want.line want.next p want.asks target f)
+    unfit : (target : Target) (w : Walked) → IsSought script H held.hart target → has_walked_to (Some (record { target = target; walked = w })) p ≡ false → ⊥
+    unfit target w f = off target w (target_is script H held.hart held.ended fits.counts want.line want.next p want.asks target f)
 
-    go : (noted : Option Noted) → UnusedFits script H held.hart noted → has_walked_to noted p ≡ false → noted ≡ None
+    go : (noted : Option Noted) → UnusedSought script H held.hart noted → has_walked_to noted p ≡ false → noted ≡ None
     go None f lacks = refl
     go (Some noted) f lacks = absurd (unfit noted.target noted.walked f lacks)
 
-pub sought : (script : ScriptValue) (H : List Entry) (held : HartValue) (p : ℕ) → Fits script H held → IsWanted script held p → held.walked ≡ None → IsSought script H held.hart (host_at p)
+pub sought : (script : ScriptValue) (H : List Entry) (held : HartValue) (p : ℕ) → FitsAlone script H held → IsWanted script held p → held.walked ≡ None → IsSought script H held.hart (host_at p)
 sought script H held p fits want none =
     let T = tlb script H held.hart in
     let rings : held.rings ≡ rings_of T = fits.rings ∙ ap (walked_rings (rings_of T)) none in
@@ -120,14 +122,25 @@ sought script H held p fits want none =
 pub fits_walk : (script : ScriptValue) (words : List ℕ) (held : HartValue) (page : Page) (walked : Walked) → page.0 < script.pages → IsWanted script held page.0 → IsFoundIn words page.0 walked → (mon : Mon) → IsKept script words mon → Fits script mon.history held → Fits script mon.history (after_walk held (targets.Host page) walked)
 fits_walk script words held page (walks.Found q) below want finds mon kept fits =
     let H = mon.history in
-    let none = unwalked_now script H held page.0 fits want in
+    let alone = fits_fit_alone script H held fits in
+    let none = unwalked_now script H held page.0 alone want in
     let host : is_host (page_at (after script H).pages page.0) ≡ true = (words_tell_host script.pages script.harts words (after script H) page.0 below kept.stands.stands.owners).1 finds.1 in
     fits_walked script H held (targets.Host page) (walks.Found q) fits none
-    (sought script H held page.0 fits want none, record { was = was_now script H held.hart (targets.Host page) host; led = finds.0 })
+    (sought script H held page.0 alone want none, record { was = was_now script H held.hart (targets.Host page) host; led = finds.0 })
 fits_walk script words held page (walks.Missing word) below want finds mon kept fits =
     let H = mon.history in
-    let none = unwalked_now script H held page.0 fits want in
-    fits_walked script H held (targets.Host page) (walks.Missing word) fits none (sought script H held page.0 fits want none)
+    let alone = fits_fit_alone script H held fits in
+    let none = unwalked_now script H held page.0 alone want in
+    fits_walked script H held (targets.Host page) (walks.Missing word) fits none (sought script H held page.0 alone want none)
+
+pub needed_walks_leave_alone : NeededWalksLeaveAlone
+needed_walks_leave_alone script history held phase page walked within needed alone =
+    let want = wanted script held phase page needed in
+    let none = unwalked_now script history held page.0 alone want in (
+      wanted_below script within held page.0 alone.stands want,
+      none,
+      walks_leave_alone script history held (targets.Host page) walked none (sought script history held page.0 alone want none) alone,
+    )
 
 -- ---- a hart that needs no walk
 

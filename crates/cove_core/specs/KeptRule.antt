@@ -1,14 +1,20 @@
 -- What a history that is kept says of the shared words and of each hart that fits it.
-use Rattle.std.specs.Prelude.{◌≢◌, ℕ, ◌<◌, ◌≤◌, IsTrue, List, length}
-use Rattle.cove_base.specs.HartValues.{HartValue, Holding, holding}
+use Rattle.std.specs.Prelude.{◌≡◌, ◌≢◌, ℕ, ◌<◌, ◌≤◌, IsTrue, List, None, length}
+use Rattle.cove_base.specs.HartValues.{HartValue, Holding, after_walk, holding}
 use Rattle.cove_base.specs.Scripts.{ScriptValue, is_within_limits}
 use Rattle.cove_base.specs.declared.events.Entry.{Entry}
+use Rattle.cove_base.specs.declared.events.Walked.{Walked}
 use Rattle.cove_base.specs.declared.limits.TheConstants.{ENTRY_LIMIT}
+use Rattle.cove_base.specs.declared.numbers.Page.{Page}
+use Rattle.cove_base.specs.declared.walks.Target.TheVariants.{Host}
 use Rattle.cove_core.specs.Kept.{IsKept}
 use Rattle.cove_core.specs.Made.{IsMade}
 use Rattle.cove_core.specs.declared.monitors.Mon.{Mon}
 use Rattle.cove_model.specs.BoardRule.{AreBounded, IsLive, IsMonitored, Names}
+use Rattle.cove_hart.specs.Needs.{next_need}
+use Rattle.cove_hart.specs.declared.needs.Need.TheVariants.{Walk}
 use Rattle.cove_model.specs.Fits.{Fits}
+use Rattle.cove_model.specs.FitsAlone.{FitsAlone}
 use Rattle.cove_model.specs.StoreLaw.{MayUse}
 
 -- the monitor's part of the board's rule, no store being pending
@@ -45,3 +51,12 @@ StepsKeepLive =
     → length old.history < ENTRY_LIMIT → IsKept script before old
     → IsMade script before now old new held left entry → other.hart ≢ held.hart
     → IsLive script old.history before other → IsLive script new.history now other
+
+-- A walk that a hart needs is to a page of the board, and the hart has no unused walk. It leaves what the hart knows of
+-- itself while others make entries, whatever it found.
+abbrev pub NeededWalksLeaveAlone : Type 0
+NeededWalksLeaveAlone =
+    (script : ScriptValue) (history : List Entry) (held : HartValue) (phase : ℕ) (page : Page) (walked : Walked)
+    → IsTrue (is_within_limits script) → next_need script held phase ≡ Walk (Host page)
+    → FitsAlone script history held
+    → (page.0 < script.pages) × (held.walked ≡ None) × FitsAlone script history (after_walk held (Host page) walked)

@@ -1,6 +1,7 @@
 //! The harts of a board, before any entry.
 
-ghost use Rattle.std.specs.Prelude.{◌≡◌, ◌<◌, IfOk};
+ghost use Rattle.std.specs.Prelude.{◌≡◌, ◌<◌, ◌↔◌, IfOk, IsSome, length, slice_get};
+ghost use Rattle.std.specs.Option.{option_copied};
 ghost use Rattle.cove_core.specs.Seats.{AreNew};
 
 use cove_base::{HartId, NoMemory, Script};
@@ -34,5 +35,27 @@ impl Harts {
             harts.push(HartState::new(alloc, HartId(k), script)?)?;
         }
         Ok(Harts { harts })
+    }
+
+    /// The number of harts.
+    pub fn len(&self) -> usize
+        ensures { result ≡ length self.now }
+    {
+        self.harts.len()
+    }
+
+    /// The hart with a number.
+    pub fn get(&self, hart: usize) -> Option<&HartState>
+        ensures hart { option_copied result ≡ slice_get self.now hart }
+        ensures found { IsSome result ↔ (hart < length self.now) }
+    {
+        self.harts.as_slice().get(hart)
+    }
+
+    /// The harts as a list.
+    pub fn into_vec(self) -> Vec<HartState>
+        ensures { result.items ≡ self }
+    {
+        self.harts
     }
 }

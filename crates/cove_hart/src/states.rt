@@ -1,4 +1,5 @@
 ghost use Rattle.std.specs.Prelude.{◌≡◌, ◌+◌, ◌<◌, ◌≤◌, ◌^◌, [], length, drop, filter, slice_get, Some, None, IsSome, IfSome, IfOk};
+ghost use Rattle.std.specs.Option.{option_map};
 ghost use Rattle.cove_base.specs.HartLines.{next_line};
 ghost use Rattle.cove_base.specs.HartPlaces.{is_line_of, IsNextPlace};
 ghost use Rattle.cove_base.specs.HartValues.{accessed_page, after_walk, has_walked_to, no_rings, rings_find};
@@ -52,6 +53,14 @@ impl HartState {
             Some(line) if line.phase <= phase => self.need(line.line),
             _ => Need::Idle,
         }
+    }
+
+    /// The phase of the hart's next line, where one is left.
+    pub fn phase(&self, script: &Script) -> Option<u32>
+        requires { IsNextPlace script.now self.now.hart.0 self.now.ended self.now.place }
+        ensures { result ≡ option_map (λ line. line.phase) (next_line script.now self.now.hart.0 self.now.ended) }
+    {
+        self.next_line(script).map(|line| line.phase)
     }
 
     // The hart's next line, where there is one.

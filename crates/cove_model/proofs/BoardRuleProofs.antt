@@ -1,5 +1,5 @@
 -- Lawful stores and the store of the count keep the rule of every other hart; a hart that fits follows it.
-use Rattle.std.proofs.Common.{◌≡◌, ◌≢◌, ℕ, ◌+◌, ◌<◌, ◌≤◌, true, List, [], ◌∷◌, ◌++◌, Option, Some, None, length, get_or, set, sym, ◌∙◌, ap, subst, inl, inr, ⊎_elim, arith, get_or-set_other, get_or-set_same, length-set}
+use Rattle.std.proofs.Common.{◌≡◌, ◌≢◌, ℕ, ◌+◌, ◌<◌, ◌≤◌, true, List, [], ◌∷◌, ◌++◌, Option, Some, None, length, get_or, set, refl, sym, ◌∙◌, ap, subst, inl, inr, ⊎_elim, arith, get_or-set_other, get_or-set_same, length-set}
 use Rattle.std.proofs.lemmas.Bool.{cases_lt}
 use Rattle.std.proofs.lemmas.List.{get_or_past, length_push}
 use Rattle.cove_base.proofs.ScriptLimits.{Limits, limits_of}
@@ -18,14 +18,14 @@ use Rattle.cove_base.specs.declared.walks.Target.{Target}
 use Rattle.cove_base.specs.declared.walks.Target.TheVariants as targets
 use Rattle.cove_model.proofs.AtTheEnd.{each_push, legal_push, tlb_other}
 use Rattle.cove_model.proofs.BesideProofs.{count_leaves_words}
-use Rattle.cove_model.proofs.Fitting.{host_at, led_longer, ring_cases, same_page, walk_was_found}
+use Rattle.cove_model.proofs.Fitting.{host_at, led_longer, ring_cases, ring_names, same_page, walk_was_found}
 use Rattle.cove_model.proofs.Members.{false-true}
 use Rattle.cove_model.proofs.Playing.{was_longer, was_now}
-use Rattle.cove_model.proofs.StoreLawProofs.{stores_keep_answers, stores_keep_fences, stores_keep_host, stores_keep_usable}
+use Rattle.cove_model.proofs.StoreLawProofs.{answers_apart, stores_keep_answers, stores_keep_fences, stores_keep_host, stores_keep_usable}
 use Rattle.cove_model.proofs.ToldProofs.{words_tell_host}
 use Rattle.cove_model.proofs.Histories.{usable}
 use Rattle.cove_model.proofs.Holding.{held_since, holds_able}
-use Rattle.cove_model.specs.BoardRule.{AreBounded, CountsKeepRule, FittingHartsLive, FittingHartsUse, IsLive, IsMonitored, ListsKeepRule, LiveWalksWereRight, StoresKeepRule, UnusedLives, WalkLives}
+use Rattle.cove_model.specs.BoardRule.{AreBounded, CountsKeepRule, FittingHartsLive, FittingHartsUse, IsLive, IsMonitored, ListsKeepRule, LiveWalksWereRight, RestingHartsLive, StoresKeepRule, StoresKeepWalks, UnusedLives, WalkLives, resting}
 use Rattle.cove_model.specs.Cached.{IsReached, WasFound}
 use Rattle.cove_model.specs.Fits.{Fits, UnusedFits, WalkFits, rings_of, walked_rings}
 use Rattle.cove_model.specs.Histories.{after}
@@ -109,7 +109,7 @@ module _ (script : ScriptValue) (history : List Entry) (old now : List ℕ) (tab
   store_unused h None lives = tt
   store_unused h (Some noted) lives = store_walk h noted.target noted.walked lives
 
-  store_live : (other : Holding) → other.hart ≢ hart → IsLive script history now other → IsLive script history (set now place word) other
+  store_live : (other : Holding) → answered_word script.pages other.hart ≢ place → IsLive script history now other → IsLive script history (set now place word) other
   store_live other ne live = record {
     on_board = live.on_board;
     usable = λ p named.
@@ -123,6 +123,10 @@ pub stores_keep_rule : StoresKeepRule
 stores_keep_rule script history old now tables hart place word part bounded lawful =
     (store_monitored script history old now tables hart place word part bounded lawful, store_bounded script history old now tables hart place word part bounded lawful, store_live script history old now tables hart place word part bounded lawful)
 
+pub stores_keep_walks : StoresKeepWalks
+stores_keep_walks script history old now tables hart place word part bounded lawful =
+    store_unused script history old now tables hart place word part bounded lawful
+
 -- ---- a list of them
 
 lists_from : (script : ScriptValue) (history : List Entry) (old : List ℕ) (tables : ℕ → Tables) (hart : ℕ) (ss : List (ℕ × ℕ)) (now : List ℕ) → IsMonitored script history old now → AreBounded script.pages script.harts now → AllAllowed (IsLawful script.pages script.harts tables hart old) now ss → IsMonitored script history old (stored now ss) × AreBounded script.pages script.harts (stored now ss) × ((other : Holding) → other.hart ≢ hart → IsLive script history now other → IsLive script history (stored now ss) other)
@@ -130,7 +134,7 @@ lists_from script history old tables hart [] now part bounded all = (part, bound
 lists_from script history old tables hart (s ∷ ss) now part bounded all =
     let one = stores_keep_rule script history old now tables hart s.0 s.1 part bounded all.0 in
     let rest = lists_from script history old tables hart ss (set now s.0 s.1) one.0 one.1 all.1 in
-    (rest.0, rest.1, λ other ne live. rest.2 other ne (one.2 other ne live))
+    (rest.0, rest.1, λ other ne live. rest.2 other ne (one.2 other (answers_apart all.0 other.hart live.on_board ne) live))
 
 pub lists_keep_rule : ListsKeepRule
 lists_keep_rule script history old now new tables hart part bounded leads =
@@ -268,6 +272,17 @@ module _ (script : ScriptValue) (limits : Limits script) (history : List Entry) 
     walk = unused_lives held.hart fits.on_board held.walked fits.walk;
     rings = fits.rings;
   }
+
+  resting_live : (h : ℕ) → h < script.harts → IsLive script history words (resting script history h)
+  resting_live h on = record {
+    on_board = on;
+    usable = λ p named. held_lives h p (ring_names (tlb script history h).pages p named);
+    walk = tt;
+    rings = refl;
+  }
+
+pub resting_harts_live : RestingHartsLive
+resting_harts_live script history words hart within part on = resting_live script (limits_of script within) history words part hart on
 
 pub fitting_harts_use : FittingHartsUse
 fitting_harts_use script history words held p within part fits named =

@@ -37,7 +37,7 @@ pub led_longer : (script : ScriptValue) (H : List Entry) (e : Entry) (h : ℕ) (
 led_longer script H e h t page ne led = record { was = was_longer script H e h t ne led.was; led = led.led }
 
 module _ (script : ScriptValue) (limits : Limits script) (H : List Entry) (e : Entry) (front : Legal script H) (legal : Legal script (H ++ e ∷ [])) (h : ℕ) (on : h < script.harts) (ne : e.hart.0 ≡ h → ⊥) where
-  sought_other : (t : Target) → IsSought script H h t → IsSought script (H ++ e ∷ []) h t
+  pub sought_other : (t : Target) → IsSought script H h t → IsSought script (H ++ e ∷ []) h t
   sought_other t sought = record {
     aims = aimed_other script limits H e h on front legal (λ q. ne (sym q)) ∙ sought.aims;
     absent = ap (λ held. holds_target held t) (tlb_other script H e h ne) ∙ sought.absent;
@@ -51,7 +51,7 @@ module _ (script : ScriptValue) (limits : Limits script) (H : List Entry) (e : E
   unused_other None fits = tt
   unused_other (Some noted) fits = walk_other noted.target noted.walked fits
 
-  inside_other : (o : Option Inside) → InsideFits (after script H) h o → InsideFits (after script (H ++ e ∷ [])) h o
+  pub inside_other : (o : Option Inside) → InsideFits (after script H) h o → InsideFits (after script (H ++ e ∷ [])) h o
   inside_other None fits = seat_apart script H e h ne ∙ fits
   inside_other (Some here) fits =
       let still = still_since script limits H (e ∷ []) h (seat_of here) on fits.sits front legal (own_alone e h ne) in
@@ -131,7 +131,7 @@ fits_entered script H e left same on counts stands rings none inside = record {
 -- ---- what a hart names
 
 -- a page that a ring of pages names is one of them
-ring_names : (pages : List ℕ) (p : ℕ) → IsSome (found p (ring_of pages)) → has p pages ≡ true
+pub ring_names : (pages : List ℕ) (p : ℕ) → IsSome (found p (ring_of pages)) → has p pages ≡ true
 ring_names pages p named = go (has p pages) (subst IsSome (ring_finds_page pages p) named)
   where
     as_page : ℕ → Page

@@ -20,6 +20,8 @@ mod FrontProofs
 pub mod GrammarLimits
 pub mod StoreLawProofs
 pub mod BoardRuleProofs
+pub mod WalkRuleProofs
+pub mod AloneProofs
 pub mod HostMemoryProofs
 pub mod FirstCheckProofs
 pub mod Aiming

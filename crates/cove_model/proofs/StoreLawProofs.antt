@@ -52,6 +52,16 @@ stores_keep_answers pages harts tables hart old words place word size within law
     let number = set_cases words place word (answered_word pages k) (omega arith) in
     omega arith
 
+-- a lawful store is none of the answered number of another hart
+pub answers_apart : {pages harts : ℕ} {tables : ℕ → Tables} {hart : ℕ} {old words : List ℕ} {place word : ℕ} → IsLawful pages harts tables hart old words place word → (other : ℕ) → other < harts → other ≢ hart → answered_word pages other ≢ place
+answers_apart {pages} {harts} {tables} {hart} {old} {words} {place} {word} lawful other on ne = elim (place_of lawful) [
+  | inl page ↦ omega arith
+  | inr rest ↦ elim rest [
+    | inl own ↦ let at : place ≡ answered_word pages hart = own.0 in omega arith
+    | inr begun ↦ let at : place ≡ epoch_word pages = begun.0 in omega arith
+  ]
+]
+
 pub stores_keep_fences : StoresKeepFences
 stores_keep_fences pages harts tables hart old words place word size limit lawful =
     let kind = place_of lawful in record {
@@ -65,7 +75,6 @@ stores_keep_fences pages harts tables hart old words place word size limit lawfu
 pub stores_keep_usable : StoresKeepUsable
 stores_keep_usable pages harts tables hart other old words place word p size within on ne inside lawful may =
     let kind = place_of lawful in
-    let apart : answered_word pages other ≢ place = omega arith in
     rw (get_or-set_other words place (answered_word pages other) word 0 apart) (elim (set_cases words place word p (omega arith)) [
       | inl here ↦ rw here.1 (elim (next_word lawful (omega arith)) [
         | inl is ↦ inl is

@@ -1,9 +1,10 @@
 -- What holds of the shared words, the history and what each hart holds, also while a hart that is held stores. It is
 -- said of host pages, and of the moment of each walk; the tables of TVMs have no part in it yet.
-use Rattle.std.specs.Prelude.{◌≡◌, ◌≢◌, ℕ, ◌<◌, ◌⊎◌, List, [], ◌∷◌, ◌++◌, IsSome, IsTrue, Option, Some, None, length, slice_index, slice_set}
-use Rattle.cove_base.specs.HartValues.{HartValue, Holding, holding}
+use Rattle.std.specs.Prelude.{◌≡◌, ◌≢◌, ℕ, ◌<◌, ◌⊎◌, List, [], ◌∷◌, ◌++◌, IsSome, IsTrue, Option, Some, None, length, replicate, slice_index, slice_set}
+use Rattle.cove_base.specs.HartValues.{HartValue, Holding, holding, rings_after}
+use Rattle.cove_base.specs.HostWalks.{walked_to}
 use Rattle.cove_base.specs.PageWords.{IsHostWord}
-use Rattle.cove_base.specs.Places.{page_word, count_word, all_words}
+use Rattle.cove_base.specs.Places.{page_word, answered_word, count_word, all_words}
 use Rattle.cove_base.specs.Rings.{found}
 use Rattle.cove_base.specs.Scripts.{ScriptValue, is_within_limits}
 use Rattle.cove_base.specs.declared.events.Entry.{Entry}
@@ -77,7 +78,8 @@ pub record IsLive (script : ScriptValue) (history : List Entry) (words : List �
   pub walk : UnusedLives script history words held.hart held.walked
   pub rings : held.rings ≡ walked_rings (rings_of (tlb script history held.hart)) held.walked
 
--- A lawful store of one hart keeps the rule of every other hart, whatever that one does meanwhile.
+-- A lawful store of one hart keeps the rule of each hart, whatever that one does meanwhile: of the hart that stores too,
+-- unless it stores its answered number.
 abbrev pub StoresKeepRule : Type 0
 StoresKeepRule =
     (script : ScriptValue) (history : List Entry) (old now : List ℕ) (tables : ℕ → Tables) (hart place word : ℕ)
@@ -85,10 +87,19 @@ StoresKeepRule =
     → IsLawful script.pages script.harts tables hart old now place word
     → IsMonitored script history old (slice_set now place word)
     × AreBounded script.pages script.harts (slice_set now place word)
-    × ((other : Holding) → other.hart ≢ hart
+    × ((other : Holding) → answered_word script.pages other.hart ≢ place
     → IsLive script history now other → IsLive script history (slice_set now place word) other)
 
--- So does each list of lawful stores.
+-- And it keeps an unused walk of each hart right.
+abbrev pub StoresKeepWalks : Type 0
+StoresKeepWalks =
+    (script : ScriptValue) (history : List Entry) (old now : List ℕ) (tables : ℕ → Tables) (hart place word : ℕ)
+    → IsMonitored script history old now → AreBounded script.pages script.harts now
+    → IsLawful script.pages script.harts tables hart old now place word
+    → (other : ℕ) (noted : Option Noted)
+    → UnusedLives script history now other noted → UnusedLives script history (slice_set now place word) other noted
+
+-- A list of lawful stores keeps the rule of every other hart.
 abbrev pub ListsKeepRule : Type 0
 ListsKeepRule =
     (script : ScriptValue) (history : List Entry) (old now new : List ℕ) (tables : ℕ → Tables) (hart : ℕ)
@@ -109,6 +120,41 @@ CountsKeepRule =
     × AreBounded script.pages script.harts new
     × ((other : Holding) → other.hart ≢ hart
     → IsLive script history now other → IsLive script (history ++ entry ∷ []) new other)
+
+-- what a hart holds after a walk, which it has not used yet
+abbrev pub walked_holding : Holding → Target → Walked → Holding
+walked_holding held target walked = record held {
+  rings = rings_after held.rings target walked;
+  walked = Some (record { target = target; walked = walked });
+}
+
+-- A walk to a host page keeps the rule of its hart, which had no unused walk: one load of the page's word between any two
+-- stores of other harts.
+abbrev pub WalksKeepRule : Type 0
+WalksKeepRule =
+    (script : ScriptValue) (history : List Entry) (words : List ℕ) (held : Holding) (page : Page)
+    → page.0 < script.pages → held.walked ≡ None → IsLive script history words held
+    → IsLive script history words (walked_holding held (Host page) (walked_to page (slice_index words (page_word page.0))))
+
+-- what a hart holds that has just its translations
+abbrev pub resting : ScriptValue → (history : List Entry) (hart : ℕ) → Holding
+resting script history hart =
+    record { hart = hart; rings = rings_of (tlb script history hart); walked = None }
+
+-- Where no store is pending, the rule holds of each hart that has just its translations: after the count of its entry,
+-- and at the opening.
+abbrev pub RestingHartsLive : Type 0
+RestingHartsLive =
+    (script : ScriptValue) (history : List Entry) (words : List ℕ) (hart : ℕ)
+    → IsTrue (is_within_limits script) → IsMonitored script history words words
+    → hart < script.harts → IsLive script history words (resting script history hart)
+
+-- At the opening, where every word is 0, the monitor's part of the rule holds, and the numbers are bounded.
+abbrev pub OpeningKeepsRule : Type 0
+OpeningKeepsRule =
+    (script : ScriptValue)
+    → let zeros = replicate (all_words script.pages script.harts) 0 in
+    IsMonitored script [] zeros zeros × AreBounded script.pages script.harts zeros
 
 -- Where no store is pending, the rule holds of each hart that fits the history.
 abbrev pub FittingHartsLive : Type 0

@@ -10,6 +10,7 @@ pub mod Histories
 pub mod Cached
 pub mod Sound
 pub mod Fits
+pub mod FitsAlone
 pub mod Played
 pub mod Reports
 pub mod Examples

@@ -1,7 +1,7 @@
--- What a lawful store of one hart leaves of the pages that another hart may use.
+-- What a lawful store of one hart leaves of the pages that each hart may use.
 use Rattle.std.specs.Prelude.{◌≡◌, ◌≢◌, ℕ, ◌<◌, ◌≤◌, ◌⊎◌, List, length, slice_index, slice_set}
 use Rattle.cove_base.specs.PageWords.{host, converting, IsHostWord}
-use Rattle.cove_base.specs.Places.{page_word, all_words}
+use Rattle.cove_base.specs.Places.{page_word, answered_word, all_words}
 use Rattle.cove_base.specs.declared.limits.TheConstants.{ENTRY_LIMIT}
 use Rattle.cove_model.specs.LawfulStores.{Tables, IsLawful}
 use Rattle.cove_model.specs.WordLaws.{AnswersWithin}
@@ -15,12 +15,12 @@ IsUsableWord answered word = IsHostWord word ⊎ ((since : ℕ) × (word ≡ con
 abbrev pub MayUse : (pages : ℕ) (words : List ℕ) (hart p : ℕ) → Type 0
 MayUse pages words hart p = IsUsableWord (answered_in pages words hart) (slice_index words (page_word p))
 
--- a lawful store of a hart leaves the pages that another hart may use
+-- a lawful store leaves the pages that a hart may use, also the hart that stores, unless it is one of that hart's answered number
 abbrev pub StoresKeepUsable : Type 0
 StoresKeepUsable =
     (pages harts : ℕ) (tables : ℕ → Tables) (hart other : ℕ) (old words : List ℕ) (place word p : ℕ)
     → length words ≡ all_words pages harts → AnswersWithin pages harts words
-    → other < harts → other ≢ hart → p < pages
+    → other < harts → answered_word pages other ≢ place → p < pages
     → IsLawful pages harts tables hart old words place word
     → MayUse pages words other p → MayUse pages (slice_set words place word) other p
 

@@ -1,4 +1,5 @@
 use Rattle.cove_core.proofs.KeptRuleProofs.{kept_harts_live, kept_harts_use, kept_is_bounded, kept_is_monitored, steps_keep_live}
+use Rattle.cove_core.proofs.Walking.{needed_walks_leave_alone}
 use Rattle.cove_core.proofs.rules.kept_law.Goals as goal
 
 pub returns-clause-monitored : goal.returns-clause-monitored
@@ -15,3 +16,6 @@ returns-clause-usable c = kept_harts_use
 
 pub returns-clause-steps : goal.returns-clause-steps
 returns-clause-steps c = steps_keep_live
+
+pub returns-clause-walks : goal.returns-clause-walks
+returns-clause-walks c = needed_walks_leave_alone

@@ -1,0 +1,6 @@
+mod Seating
+mod Ruling
+mod Moving
+mod Allowing
+mod Holding
+mod Opening

@@ -1,0 +1,15 @@
+use Rattle.std.proofs.Common.{◌<◌, sym, ◌∙◌, ap, subst}
+use Rattle.cove_base.specs.Places.{all_words}
+use Rattle.cove_board.proofs.Allowing.{loads_allowed}
+use Rattle.cove_board.proofs.boards.Board.load.Goals as goal
+use Rattle.cove_board.specs.Passes.{BoardValue}
+
+pub load-requires : goal.load-requires
+load-requires c =
+    let k = sym c.self.view_is in
+    let size = c.self.invariant.1 in
+    let here = subst (λ (b : BoardValue). c.args.place < all_words b.script.pages b.script.harts) k c.requires.place in (
+      c.requires.table ∙ ap (λ (b : BoardValue). b.table) k,
+      subst (λ n. c.args.place < n) (sym size) here,
+      loads_allowed c.self.inside.table.shared.key c.self.inside.table.shared.table_id.slots c.args.seat.now.id c.args.place c.args.seat.now.me c.requires.carries,
+    )

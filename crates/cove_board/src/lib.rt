@@ -1,0 +1,15 @@
+#![tactic(auto)]
+//! The shared words of a board, on which harts walk without a lock while others store. Proved, by the clauses of
+//! [`Board`] and [`Held`]: one rule holds between any two atomic steps of any number of passes, a walk is one load, and
+//! a held pass is [`cove_base::Words`] that allow exactly the lawful stores. The rule stands in specs/Ruled.antt, on the
+//! definitions of `cove_model`; the steps are those of the kit's `atomic_table`.
+
+mod boards;
+mod held;
+mod passes;
+mod views;
+
+pub use boards::{Board, Boarded};
+pub use held::Held;
+pub use passes::{Pass, Passes};
+pub use views::{BoardRule, View};
