@@ -1,7 +1,7 @@
-use Rattle.std.proofs.Common.{◌≡◌, ℕ, zero, suc, ◌+◌, ◌-◌, ap, ◌<◌, inl, inr, List, [], ◌∷◌, length, set, refl, ◌∙◌, arith, length-set, get_or-set_other}
+use Rattle.std.proofs.Common.{◌≡◌, ℕ, zero, suc, ◌+◌, ◌-◌, ap, ◌<◌, inl, inr, List, [], ◌∷◌, length, set, refl, ◌∙◌, arith, length-set, get_or-set_other, ◌++◌}
 use Rattle.std.proofs.lemmas.Bool.{cases_lt}
 use Rattle.std.proofs.lemmas.Grind.{get_or-set_at}
-use Rattle.cove_base.specs.Stores.{AllAllowed, fills, StoresKeepLength, StoresKeepOthers, StoresAppend, FillsWrite, FillsKeepOthers}
+use Rattle.cove_base.specs.Stores.{AllAllowed, stored, fills, StoresKeepLength, StoresKeepOthers, StoresAppend, FillsWrite, FillsKeepOthers}
 
 pub length-stored : StoresKeepLength
 length-stored words [] = refl

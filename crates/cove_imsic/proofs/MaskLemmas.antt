@@ -4,10 +4,9 @@ use Rattle.std.specs.Prelude.{◌==◌, ◌&&◌, ◌||◌, not, nat_lt, bit_or,
 use Rattle.std.specs.Int.{w64, bit_at, bit_not, trailing_zeros}
 use Rattle.std.proofs.lemmas.Bool.{le-ltb, lt-ltb}
 use Rattle.std.proofs.lemmas.Bool.Decides.{eqb_tells, leb_tells}
-use Rattle.std.proofs.lemmas.Nat.{and_le_l, mod_below, pow_below}
+use Rattle.std.proofs.lemmas.Nat.{and_le_l, mod_below, pow_below, or_lt}
 use Rattle.std.proofs.lemmas.Nat.Bits.{bit_at-lt, bit_at-zero, bit_at_lowest, bit_at_and, bit_at_set_same, bit_at_set_other, bit_at_clear_same, bit_at_clear_other, bit_at_ones, bit_at_ones_above, bit_at-trailing_zeros}
 use Rattle.cove_base.specs.InterruptFiles.{InterruptFile, has, is_signalled, set_of_mask, those, top}
-use Rattle.std.proofs.lemmas.Nat.{or_lt}
 use Rattle.cove_imsic.specs.Masks.{IsMask}
 use Rattle.cove_imsic.proofs.SetLemmas.{has-those, least-is, least-none, those-same}
 

@@ -1,5 +1,5 @@
 -- The board of every state is the script's.
-use Rattle.std.proofs.Common.{◌≡◌, ℕ, List, length, refl, sym, ap, subst, ◌∙◌}
+use Rattle.std.proofs.Common.{◌≡◌, ℕ, List, length, refl, sym, ap, subst, ◌∙◌, Option, Some, None}
 use Rattle.std.proofs.lemmas.List.{length-replicate}
 use Rattle.cove_base.specs.Scripts.{ScriptValue}
 use Rattle.cove_base.specs.declared.events.Entry.{Entry}
@@ -11,7 +11,6 @@ use Rattle.cove_model.specs.Histories.{after}
 use Rattle.cove_model.specs.Sound.{IsBoardOf}
 use Rattle.cove_model.specs.States.{Seat, State}
 use Rattle.cove_model.specs.Steps.{after_event, done, line_ended}
-use Rattle.std.proofs.Common.{Option, Some, None}
 
 line_files : (h : ℕ) (o : Option Seat) (S : State) → (line_ended h o S).files ≡ S.files
 line_files h None S = refl

@@ -75,7 +75,7 @@ stores_keep_fences pages harts tables hart old words place word size limit lawfu
 pub stores_keep_usable : StoresKeepUsable
 stores_keep_usable pages harts tables hart other old words place word p size within on ne inside lawful may =
     let kind = place_of lawful in
-    rw (get_or-set_other words place (answered_word pages other) word 0 apart) (elim (set_cases words place word p (omega arith)) [
+    rw (get_or-set_other words place (answered_word pages other) word 0 ne) (elim (set_cases words place word p (omega arith)) [
       | inl here ↦ rw here.1 (elim (next_word lawful (omega arith)) [
         | inl is ↦ inl is
         | inr rest ↦ elim rest [
