@@ -4,6 +4,7 @@ use std::marker::Model;
 use std::sync::ledger::{Blank, Book, Ledger, Share};
 
 /// A counter of steps, which takes no bytes. Contracts see it as the number of steps so far.
+#[derive(Drop)]
 pub struct Steps<L: Ledger> {
     book: Book<L>,
     share: Share<L>,
