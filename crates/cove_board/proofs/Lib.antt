@@ -4,3 +4,4 @@ mod Moving
 mod Allowing
 mod Holding
 mod Opening
+mod Dealing
