@@ -1,3 +1,4 @@
 mod EntryLemmas
 mod LackedLemmas
 mod LeafLemmas
+mod LinkLemmas

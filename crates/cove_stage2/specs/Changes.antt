@@ -2,7 +2,7 @@
 use Rattle.std.specs.Prelude.{◌≡◌, ◌≢◌, ℕ, ◌/◌, ◌-◌, ◌%◌, ◌^◌, ◌<◌, List, [], ◌∷◌, length, Bool}
 use Rattle.cove_base.specs.Places.{table_word}
 use Rattle.cove_base.specs.TableWords.{blocked}
-use Rattle.cove_base.specs.Tables.{Slot, InRoot, InMiddle, InLast, IsLinkSlot, entry_at, leaf_at, next_table, present, IsTree, IsSpare}
+use Rattle.cove_base.specs.Tables.{Slot, InRoot, InMiddle, InLast, IsLinkSlot, IsSlot, entry_at, leaf_at, next_table, present, IsTree, IsSpare}
 
 -- the words are a tree in which the leaf of one guest page is this one, and every other leaf is as it was
 pub record ChangesLeaf (pages root : ℕ) (old new : List ℕ) (g leaf : ℕ) : Type 0 where
@@ -52,3 +52,16 @@ slot_place pages root words (InLast g) =
 -- the one store of a leaf
 abbrev pub leaf_stores : (pages root : ℕ) (words : List ℕ) (g leaf : ℕ) → List (ℕ × ℕ)
 leaf_stores pages root words g leaf = (slot_place pages root words (InLast g), leaf) ∷ []
+
+-- the words are a tree in which a slot names a table, one that it named before is named still, and every other entry
+-- is as it was
+pub record LinksTable (pages root : ℕ) (old new : List ℕ) (a : Slot) (page : ℕ) : Type 0 where
+  pub tree : IsTree pages root new
+  pub named : entry_at pages root new a ≡ next_table page
+  pub kept : entry_at pages root old a ≢ 0 → entry_at pages root new a ≡ entry_at pages root old a
+  pub others : (b : Slot) → IsSlot b → b ≢ a → entry_at pages root new b ≡ entry_at pages root old b
+  pub length : length new ≡ length old
+
+-- every leaf is as it was
+abbrev pub KeepsLeaves : (pages root : ℕ) (old new : List ℕ) → Type 0
+KeepsLeaves pages root old new = (g : ℕ) → g < 2 ^ 29 → leaf_at pages root new g ≡ leaf_at pages root old g

@@ -1,16 +1,18 @@
 ghost use Rattle.std.specs.Prelude.{◌≡◌, ◌≢◌, ◌+◌, ◌*◌, ◌/◌, length, ◌%◌, ◌^◌, ◌<◌, ◌≤◌, ℕ};
 ghost use Rattle.cove_base.specs.Places.{table_word};
-ghost use Rattle.cove_base.specs.Tables.{below, entry_at, InMiddle, leaf_at, IsLeaf, IsLink, IsLinkSlot, IsTree};
+ghost use Rattle.cove_base.specs.Tables.{below, entry_at, InMiddle, leaf_at, IsLeaf, IsLink, IsLinkSlot, IsPool, IsTree, present, StandsAt};
 ghost use Rattle.cove_base.specs.declared.limits.TheConstants.{PAGE_LIMIT};
 ghost use Rattle.cove_base.specs.Unchanged.{Unchanged};
 ghost use Rattle.cove_base.specs.Stores.{stored, AllAllowed};
 ghost use Rattle.cove_base.specs.TableWords.{blocked};
-ghost use Rattle.cove_stage2.specs.Changes.{ChangesLeaf, KeepsLinks, IsPresentLeaf, IsBlockedLeaf, unblocked, leaf_stores};
+ghost use Rattle.cove_stage2.specs.Changes.{ChangesLeaf, KeepsLeaves, KeepsLinks, LinksTable, NamesWay, IsPresentLeaf, IsBlockedLeaf, unblocked, leaf_stores};
 ghost use Rattle.cove_stage2.specs.Entries.{leaf_word, IsWithin};
 ghost use Rattle.cove_stage2.specs.Lacked.{flag, slot_at, absent_among, tables_lacked};
+ghost use Rattle.cove_stage2.specs.MapStores.{link_stores, map_stores, pool_after, pool_left, way_stores};
 ghost use Rattle.cove_stage2.specs.Walks.{WalksTo};
 
-use crate::entries::{Leaf, decode};
+use crate::entries::{Leaf, decode, encode};
+use crate::pools::Pool;
 use cove_base::{Gpn, PAGE_LIMIT, Page, Steps, Walked, Words, table_word};
 use std::sync::ledger::Ledger;
 
@@ -87,6 +89,29 @@ impl Tables {
         lacked + self.absent(w, Level::Middle, first / 512, last / 512 + 1 - first / 512)
     }
 
+    /// Maps a guest page to a page, with tables out of the pool where its way lacks them, the upper one first.
+    pub fn map<W: Words>(&self, w: &mut W, g: Gpn, page: Page, shared: bool, pool: &mut Pool)
+        requires guest { g.0 < 2 ^ 29 }
+        requires page { page.0 < 2 ^ 16 }
+        requires tree { IsTree self.now.pages self.now.root.0 (W.words w.old) }
+        requires absent { leaf_at self.now.pages self.now.root.0 (W.words w.old) g.0 ≡ 0 }
+        requires pool { IsPool self.now.pages self.now.root.0 (W.words w.old) pool.old.pages }
+        requires enough { tables_lacked self.now.pages self.now.root.0 (W.words w.old) g.0 1 ≤ length pool.old.pages }
+        requires allowed { AllAllowed (W.allows (W.guard w.old)) (W.words w.old)
+            (map_stores self.now.pages self.now.root.0 (W.words w.old) pool.old.pages g.0 (present page.0 shared)) }
+        ensures stores { W.words w.new ≡ stored (W.words w.old)
+            (map_stores self.now.pages self.now.root.0 (W.words w.old) pool.old.pages g.0 (present page.0 shared)) }
+        ensures leaf { ChangesLeaf self.now.pages self.now.root.0 (W.words w.old) (W.words w.new) g.0 (present page.0 shared) }
+        ensures way { NamesWay self.now.pages self.now.root.0 (W.words w.old) (W.words w.new) g.0 }
+        ensures pool { pool.new.pages ≡ pool_left self.now.pages self.now.root.0 (W.words w.old) pool.old.pages g.0 }
+        ensures room { pool.new.room ≡ pool.old.room }
+        ensures spare { IsPool self.now.pages self.now.root.0 (W.words w.new) pool.new.pages }
+        ensures guard { W.guard w.new ≡ W.guard w.old }
+    {
+        self.link_way(w, g, pool);
+        self.set_leaf(w, g, encode(Leaf::Present { page, shared }));
+    }
+
     /// Blocks a present leaf since a number.
     pub fn block<W: Words>(&self, w: &mut W, g: Gpn, since: u64)
         requires guest { g.0 < 2 ^ 29 }
@@ -142,6 +167,59 @@ impl Tables {
         ensures guard { W.guard w.new ≡ W.guard w.old }
     {
         self.set_leaf(w, g, 0);
+    }
+
+    // links the tables that the way to a guest page lacks, the upper one first
+    fn link_way<W: Words>(&self, w: &mut W, g: Gpn, pool: &mut Pool)
+        requires guest { g.0 < 2 ^ 29 }
+        requires tree { IsTree self.now.pages self.now.root.0 (W.words w.old) }
+        requires pool { IsPool self.now.pages self.now.root.0 (W.words w.old) pool.old.pages }
+        requires enough { tables_lacked self.now.pages self.now.root.0 (W.words w.old) g.0 1 ≤ length pool.old.pages }
+        requires allowed { AllAllowed (W.allows (W.guard w.old)) (W.words w.old) (way_stores self.now.pages self.now.root.0 (W.words w.old) pool.old.pages g.0) }
+        ensures stores { W.words w.new ≡ stored (W.words w.old) (way_stores self.now.pages self.now.root.0 (W.words w.old) pool.old.pages g.0) }
+        ensures tree { IsTree self.now.pages self.now.root.0 (W.words w.new) }
+        ensures leaves { KeepsLeaves self.now.pages self.now.root.0 (W.words w.old) (W.words w.new) }
+        ensures length { length (W.words w.new) ≡ length (W.words w.old) }
+        ensures way { NamesWay self.now.pages self.now.root.0 (W.words w.old) (W.words w.new) g.0 }
+        ensures pool { pool.new.pages ≡ pool_left self.now.pages self.now.root.0 (W.words w.old) pool.old.pages g.0 }
+        ensures room { pool.new.room ≡ pool.old.room }
+        ensures spare { IsPool self.now.pages self.now.root.0 (W.words w.new) pool.new.pages }
+        ensures guard { W.guard w.new ≡ W.guard w.old }
+    {
+        let n = (g.0 / 512) as u32;
+        let upper = self.root_word(n / 512);
+        let table = self.linked(w, Level::Root, n / 512, upper, pool);
+        let lower = table_word(self.pages, table, n % 512);
+        self.linked(w, Level::Middle, n, lower, pool);
+    }
+
+    // the table that a slot names, linked out of the pool where it names none
+    fn linked<W: Words>(&self, w: &mut W, level: Level, n: u32, place: u32, pool: &mut Pool) -> Page
+        requires slot { IsLinkSlot (slot_at level n) }
+        requires tree { IsTree self.now.pages self.now.root.0 (W.words w.old) }
+        requires pool { IsPool self.now.pages self.now.root.0 (W.words w.old) pool.old.pages }
+        requires place { StandsAt self.now.pages self.now.root.0 (W.words w.old) (slot_at level n) place }
+        requires enough { entry_at self.now.pages self.now.root.0 (W.words w.old) (slot_at level n) ≡ 0 → 0 < length pool.old.pages }
+        requires allowed { AllAllowed (W.allows (W.guard w.old)) (W.words w.old)
+            (link_stores (entry_at self.now.pages self.now.root.0 (W.words w.old) (slot_at level n)) place pool.old.pages) }
+        ensures stores { W.words w.new ≡ stored (W.words w.old)
+            (link_stores (entry_at self.now.pages self.now.root.0 (W.words w.old) (slot_at level n)) place pool.old.pages) }
+        ensures table { LinksTable self.now.pages self.now.root.0 (W.words w.old) (W.words w.new) (slot_at level n) result.0 }
+        ensures board { result.0 < self.now.pages }
+        ensures pool { pool.new.pages
+            ≡ pool_after (entry_at self.now.pages self.now.root.0 (W.words w.old) (slot_at level n)) pool.old.pages }
+        ensures room { pool.new.room ≡ pool.old.room }
+        ensures spare { IsPool self.now.pages self.now.root.0 (W.words w.new) pool.new.pages }
+        ensures guard { W.guard w.new ≡ W.guard w.old }
+    {
+        let entry = w.get(place);
+        if entry == 0 {
+            let page = pool.take_page();
+            w.set(place, 1024 * page.0 as u64 + 1);
+            page
+        } else {
+            Page((entry / 1024) as u32)
+        }
     }
 
     // stores a leaf where the way to its guest page is linked
