@@ -59,7 +59,7 @@ fn texts_and_their_journals(rt: HostRuntime) -> Result<(), Fail> {
         (b"board 16 1 0\nend\n", (b"end 0\n", 0)),
         (
             b"board 16 1 0\n0 info\nend\n",
-            (b"0 info = -2 0x0\nend 1\n", 0),
+            (b"0 info = 0 0x1\nend 1\n", 0),
         ),
         (
             b"board 16 1 0\n0 fly\nend\n",

@@ -1,16 +1,24 @@
-use Rattle.std.proofs.Common.{ap, length, sym, ◌∙◌, arith}
+use Rattle.std.proofs.Common.{ap, length, subst, ◌∙◌, arith}
+use Rattle.cove_model.specs.Histories.{after}
+use Rattle.cove_model.specs.WordLaws.{Stand}
+use Rattle.cove_model.specs.WordsStand.{FencesWithin}
 use Rattle.cove_core.proofs.tests.calls_of_two_harts_are_answered_in_turn.Goals as goal
 
 pub loop-second-init : goal.loop-second-init
 loop-second-init g c =
+    let script = c.in_ok-script.script in
     let board = c.in_ok-script.ensures in
+    let words = c.in_ok-built.built.words in
     let fresh = c.in_ok-built.ensures.fresh in
     let kept = fresh.ready.kept in
+    let S = after script c.in_ok-built.built.mon.history in
+    let same = subst (λ n. FencesWithin n script.harts words (length c.in_ok-built.built.mon.history)) board.0 kept.fences in
+    let both = subst (λ n. FencesWithin 16 n words (length c.in_ok-built.built.mon.history)) board.1 same in
     record {
       pages = kept.board.pages ∙ board.0;
       harts = kept.board.harts ∙ board.1;
-      stands = (c.in_ok-script.script, c.in_ok-built.built.mon.history, rw (board.0, board.1) at kept.stands, kept.frames);
-      fences = rw (board.0, board.1, ap length fresh.unplayed) at kept.fences;
+      stands = (script, c.in_ok-built.built.mon.history, subst (λ n. Stand 16 n words S) board.1 (subst (λ n. Stand n script.harts words S) board.0 kept.stands), kept.frames);
+      fences = subst (FencesWithin 16 2 words) (ap length fresh.unplayed) both;
     }
 
 pub loop-second-preserved : goal.loop-second-preserved

@@ -5,7 +5,7 @@ use Rattle.cove_owner.proofs.owners.tests.pages_of_zeros_are_the_hosts.Goals as 
 
 -- each word of a list of zeros is a page word
 zero_pages : (words : List ℕ) → words ≡ replicate 4 0 → (page : ℕ) → page < 4 → IsPageWord (get_or words page 0)
-zero_pages words is page small = rw (is, get_or-replicate 4 page 0 0 small) (OfHost 0 (lit< tt) refl)
+zero_pages words is page small = rw (is, get_or-replicate {A = ℕ} 4 page 0 0 small) (OfHost 0 (lit< tt) refl)
 
 pub state-requires-clause-word : goal.state-requires-clause-word
 state-requires-clause-word g c = zero_pages _ c.in_ok-words.ensures 2 (omega arith)
