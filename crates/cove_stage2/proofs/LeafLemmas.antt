@@ -21,6 +21,12 @@ leaf-stands pages root words g tree h some = from (entry_at pages root words (In
       let named : entry / 1024 ≡ page = omega arith in
       (page, e, ap (λ p. table_word pages p (g % 512)) named)
 
+-- it is the word of the table that the way names
+pub below-place : (pages root : ℕ) (words : List ℕ) (g page : ℕ) → entry_at pages root words (InMiddle (g / 512)) ≡ next_table page → slot_place pages root words (InLast g) ≡ table_word pages page (g % 512)
+below-place pages root words g page named =
+    let is : entry_at pages root words (InMiddle (g / 512)) / 1024 ≡ page = omega (arith, named) in
+    ap (λ p. table_word pages p (g % 512)) is
+
 -- where a leaf isn't 0, the way to it is linked
 pub leaf-linked : (pages root : ℕ) (words : List ℕ) (g : ℕ) → leaf_at pages root words g ≢ 0 → entry_at pages root words (InMiddle (g / 512)) ≢ 0
 leaf-linked pages root words g some none =

@@ -1,4 +1,7 @@
+mod ClearLemmas
 mod EntryLemmas
 mod LackedLemmas
 mod LeafLemmas
 mod LinkLemmas
+mod RestLemmas
+mod ZeroLemmas

@@ -1,6 +1,7 @@
 -- What a call that changes one leaf leaves of the tree.
-use Rattle.std.specs.Prelude.{◌≡◌, ◌≢◌, ℕ, ◌/◌, ◌-◌, ◌%◌, ◌^◌, ◌<◌, List, [], ◌∷◌, length, Bool}
+use Rattle.std.specs.Prelude.{◌≡◌, ◌≢◌, ℕ, ◌/◌, ◌-◌, ◌%◌, ◌^◌, ◌<◌, ◌≤◌, ◌⊎◌, List, [], ◌∷◌, length, slice_index, Bool}
 use Rattle.cove_base.specs.Places.{table_word}
+use Rattle.cove_base.specs.Stores.{fills}
 use Rattle.cove_base.specs.TableWords.{blocked}
 use Rattle.cove_base.specs.Tables.{Slot, InRoot, InMiddle, InLast, IsLinkSlot, IsSlot, entry_at, leaf_at, next_table, present, IsTree, IsSpare}
 
@@ -65,3 +66,15 @@ pub record LinksTable (pages root : ℕ) (old new : List ℕ) (a : Slot) (page :
 -- every leaf is as it was
 abbrev pub KeepsLeaves : (pages root : ℕ) (old new : List ℕ) → Type 0
 KeepsLeaves pages root old new = (g : ℕ) → g < 2 ^ 29 → leaf_at pages root new g ≡ leaf_at pages root old g
+
+-- the stores of 0 to the table words of a page
+unfoldable pub clear_stores : (pages page : ℕ) → List (ℕ × ℕ)
+clear_stores pages page = fills (table_word pages page 0) 512 0
+
+-- each table word of a page is 0, and every word before or behind them is as it was
+pub record ClearsPage (pages : ℕ) (old new : List ℕ) (page : ℕ) : Type 0 where
+  pub zeros : (i : ℕ) → i < 512 → slice_index new (table_word pages page i) ≡ 0
+  pub others :
+      (place : ℕ) → (place < table_word pages page 0) ⊎ (table_word pages page 512 ≤ place)
+      → slice_index new place ≡ slice_index old place
+  pub length : length new ≡ length old

@@ -1,4 +1,4 @@
-use Rattle.std.specs.Prelude.{ℕ, zero, suc, ◌+◌, ◌-◌, ◌/◌, ◌^◌, ◌==◌, Bool, true, false, List}
+use Rattle.std.specs.Prelude.{◌≡◌, ◌<◌, ◌≤◌, ℕ, zero, suc, ◌+◌, ◌-◌, ◌/◌, ◌^◌, ◌==◌, Bool, true, false, List}
 use Rattle.cove_base.specs.Tables.{Slot, InRoot, InMiddle, entry_at}
 use Rattle.cove_stage2.specs.declared.tables.Level.{Level}
 use Rattle.cove_stage2.specs.declared.tables.Level.TheVariants.{Root, Middle}
@@ -29,3 +29,10 @@ abbrev pub tables_lacked : (pages root : ℕ) (words : List ℕ) (first count : 
 tables_lacked pages root words first count =
     absent_among pages root words Root (first / 2 ^ 18) (blocks_touched (2 ^ 18) first count)
     + absent_among pages root words Middle (first / 512) (blocks_touched 512 first count)
+
+-- the rest of any run from a guest page on lacks the tables that the run lacked, but for those of its first page
+abbrev pub LacksRest : (pages root : ℕ) (old new : List ℕ) (g : ℕ) → Type 0
+LacksRest pages root old new g =
+    (count : ℕ) → 0 < count → g + count ≤ 2 ^ 29
+    → tables_lacked pages root new (g + 1) (count - 1) + tables_lacked pages root old g 1
+    ≡ tables_lacked pages root old g count

@@ -1,13 +1,13 @@
 ghost use Rattle.std.specs.Prelude.{◌≡◌, ◌≢◌, ◌+◌, ◌*◌, ◌/◌, length, ◌%◌, ◌^◌, ◌<◌, ◌≤◌, ℕ};
 ghost use Rattle.cove_base.specs.Places.{table_word};
-ghost use Rattle.cove_base.specs.Tables.{below, entry_at, InMiddle, leaf_at, IsLeaf, IsLink, IsLinkSlot, IsPool, IsTree, present, StandsAt};
+ghost use Rattle.cove_base.specs.Tables.{below, entry_at, InMiddle, leaf_at, IsLeaf, IsLink, IsLinkSlot, IsPool, IsTree, next_table, present, StandsAt};
 ghost use Rattle.cove_base.specs.declared.limits.TheConstants.{PAGE_LIMIT};
 ghost use Rattle.cove_base.specs.Unchanged.{Unchanged};
-ghost use Rattle.cove_base.specs.Stores.{stored, AllAllowed};
+ghost use Rattle.cove_base.specs.Stores.{fills, stored, AllAllowed};
 ghost use Rattle.cove_base.specs.TableWords.{blocked};
-ghost use Rattle.cove_stage2.specs.Changes.{ChangesLeaf, KeepsLeaves, KeepsLinks, LinksTable, NamesWay, IsPresentLeaf, IsBlockedLeaf, unblocked, leaf_stores};
+ghost use Rattle.cove_stage2.specs.Changes.{ChangesLeaf, clear_stores, ClearsPage, KeepsLeaves, KeepsLinks, LinksTable, NamesWay, IsPresentLeaf, IsBlockedLeaf, unblocked, leaf_stores};
 ghost use Rattle.cove_stage2.specs.Entries.{leaf_word, IsWithin};
-ghost use Rattle.cove_stage2.specs.Lacked.{flag, slot_at, absent_among, tables_lacked};
+ghost use Rattle.cove_stage2.specs.Lacked.{flag, slot_at, absent_among, tables_lacked, LacksRest};
 ghost use Rattle.cove_stage2.specs.MapStores.{link_stores, map_stores, pool_after, pool_left, way_stores};
 ghost use Rattle.cove_stage2.specs.Walks.{WalksTo};
 
@@ -104,12 +104,15 @@ impl Tables {
         ensures leaf { ChangesLeaf self.now.pages self.now.root.0 (W.words w.old) (W.words w.new) g.0 (present page.0 shared) }
         ensures way { NamesWay self.now.pages self.now.root.0 (W.words w.old) (W.words w.new) g.0 }
         ensures pool { pool.new.pages ≡ pool_left self.now.pages self.now.root.0 (W.words w.old) pool.old.pages g.0 }
+        ensures lost { length pool.new.pages + tables_lacked self.now.pages self.now.root.0 (W.words w.old) g.0 1
+            ≡ length pool.old.pages }
         ensures room { pool.new.room ≡ pool.old.room }
         ensures spare { IsPool self.now.pages self.now.root.0 (W.words w.new) pool.new.pages }
+        ensures rest { LacksRest self.now.pages self.now.root.0 (W.words w.old) (W.words w.new) g.0 }
         ensures guard { W.guard w.new ≡ W.guard w.old }
     {
-        self.link_way(w, g, pool);
-        self.set_leaf(w, g, encode(Leaf::Present { page, shared }));
+        let table = self.link_way(w, g, pool);
+        self.set_below(w, g, table, encode(Leaf::Present { page, shared }));
     }
 
     /// Blocks a present leaf since a number.
@@ -169,8 +172,20 @@ impl Tables {
         self.set_leaf(w, g, 0);
     }
 
-    // links the tables that the way to a guest page lacks, the upper one first
-    fn link_way<W: Words>(&self, w: &mut W, g: Gpn, pool: &mut Pool)
+    /// Clears a page: stores 0 to each of its table words, in rising order.
+    pub fn clear<W: Words>(&self, w: &mut W, page: Page)
+        requires page { page.0 < self.now.pages }
+        requires size { 513 * self.now.pages ≤ length (W.words w.old) }
+        requires allowed { AllAllowed (W.allows (W.guard w.old)) (W.words w.old) (clear_stores self.now.pages page.0) }
+        ensures stores { W.words w.new ≡ stored (W.words w.old) (clear_stores self.now.pages page.0) }
+        ensures cleared { ClearsPage self.now.pages (W.words w.old) (W.words w.new) page.0 }
+        ensures guard { W.guard w.new ≡ W.guard w.old }
+    {
+        clear_words(w, table_word(self.pages, page, 0), 512);
+    }
+
+    // links the tables that the way to a guest page lacks, the upper one first, and gives the lower one
+    fn link_way<W: Words>(&self, w: &mut W, g: Gpn, pool: &mut Pool) -> Page
         requires guest { g.0 < 2 ^ 29 }
         requires tree { IsTree self.now.pages self.now.root.0 (W.words w.old) }
         requires pool { IsPool self.now.pages self.now.root.0 (W.words w.old) pool.old.pages }
@@ -181,6 +196,7 @@ impl Tables {
         ensures leaves { KeepsLeaves self.now.pages self.now.root.0 (W.words w.old) (W.words w.new) }
         ensures length { length (W.words w.new) ≡ length (W.words w.old) }
         ensures way { NamesWay self.now.pages self.now.root.0 (W.words w.old) (W.words w.new) g.0 }
+        ensures table { entry_at self.now.pages self.now.root.0 (W.words w.new) (InMiddle (g.0 / 512)) ≡ next_table result.0 }
         ensures pool { pool.new.pages ≡ pool_left self.now.pages self.now.root.0 (W.words w.old) pool.old.pages g.0 }
         ensures room { pool.new.room ≡ pool.old.room }
         ensures spare { IsPool self.now.pages self.now.root.0 (W.words w.new) pool.new.pages }
@@ -190,7 +206,7 @@ impl Tables {
         let upper = self.root_word(n / 512);
         let table = self.linked(w, Level::Root, n / 512, upper, pool);
         let lower = table_word(self.pages, table, n % 512);
-        self.linked(w, Level::Middle, n, lower, pool);
+        self.linked(w, Level::Middle, n, lower, pool)
     }
 
     // the table that a slot names, linked out of the pool where it names none
@@ -237,8 +253,24 @@ impl Tables {
         ensures guard { W.guard w.new ≡ W.guard w.old }
     {
         let table = self.entry(w, Level::Middle, (g.0 / 512) as u32);
-        let place = table_word(self.pages, Page((table / 1024) as u32), (g.0 % 512) as u32);
-        w.set(place, leaf);
+        self.set_below(w, g, Page((table / 1024) as u32), leaf);
+    }
+
+    // stores a leaf in the last table on the way to its guest page
+    fn set_below<W: Words>(&self, w: &mut W, g: Gpn, table: Page, leaf: u64)
+        requires guest { g.0 < 2 ^ 29 }
+        requires leaf { IsLeaf leaf }
+        requires tree { IsTree self.now.pages self.now.root.0 (W.words w.old) }
+        requires table { entry_at self.now.pages self.now.root.0 (W.words w.old) (InMiddle (g.0 / 512)) ≡ next_table table.0 }
+        requires allowed { AllAllowed (W.allows (W.guard w.old)) (W.words w.old)
+            (leaf_stores self.now.pages self.now.root.0 (W.words w.old) g.0 leaf) }
+        ensures stores { W.words w.new ≡ stored (W.words w.old)
+            (leaf_stores self.now.pages self.now.root.0 (W.words w.old) g.0 leaf) }
+        ensures leaf { ChangesLeaf self.now.pages self.now.root.0 (W.words w.old) (W.words w.new) g.0 leaf }
+        ensures links { KeepsLinks self.now.pages self.now.root.0 (W.words w.old) (W.words w.new) }
+        ensures guard { W.guard w.new ≡ W.guard w.old }
+    {
+        w.set(table_word(self.pages, table, (g.0 % 512) as u32), leaf);
     }
 
     // the word of a guest page's leaf
@@ -306,6 +338,19 @@ impl Tables {
         ensures { result ≡ table_word self.now.pages self.now.root.0 n }
     {
         table_word(self.pages, Page(self.root.0 + n / 512), n % 512)
+    }
+}
+
+// stores 0 to k words that follow each other
+fn clear_words<W: Words>(w: &mut W, first: u32, k: u32)
+    requires places { first + k ≤ length (W.words w.old) }
+    requires limit { first + k < 2 ^ 32 }
+    requires allowed { AllAllowed (W.allows (W.guard w.old)) (W.words w.old) (fills first k 0) }
+    ensures stores { W.words w.new ≡ stored (W.words w.old) (fills first k 0) }
+    ensures guard { W.guard w.new ≡ W.guard w.old }
+{
+    for i in 0..k {
+        w.set(first + i, 0);
     }
 }
 

@@ -1,5 +1,11 @@
-use crate::{Leaf, TableEntry, decode_entry, encode};
-use cove_base::Page;
+ghost use Rattle.std.specs.Prelude.{◌≡◌, ◌<◌, ◌^◌, IfOk};
+ghost use Rattle.cove_base.specs.Tables.{IsTree};
+
+use crate::{Leaf, Pool, TableEntry, Tables, decode_entry, encode};
+use cove_base::{Gpn, NoMemory, Page, Plain, Steps, Walked, Words};
+use std::alloc::Global;
+use std::marker::Brand;
+use std::sync::ledger::{Blank, Ledger};
 use std::test::Fail;
 
 #[test]
@@ -23,5 +29,69 @@ fn entries_are_words(rt: HostRuntime) -> Result<(), Fail> {
     );
     assert!(rt; matches!(decode_entry(0x1401), Some(TableEntry::Next(Page(5)))));
     assert!(rt; decode_entry(2).is_none());
+    Ok(())
+}
+
+// The words of a board of 16 pages after two pages were mapped, below a root at page 4 and with two pages for tables.
+fn two_mapped(alloc: Global) -> Result<Plain, NoMemory>
+    ensures { IfOk result (λ words. IsTree 16 4 words) }
+{
+    let mut words = Plain::new(alloc, 8208)?;
+    let mut pool = Pool::new(alloc, 2)?;
+    pool.add(Page(8));
+    pool.add(Page(9));
+    let tables = Tables {
+        root: Page(4),
+        pages: 16,
+    };
+    tables.map(&mut words, Gpn(16), Page(10), false, &mut pool);
+    tables.map(&mut words, Gpn(17), Page(11), false, &mut pool);
+    Ok(words)
+}
+
+// Whether `find` and the walk of a fetch both come to a page, private and present.
+fn comes_to<L: Ledger>(words: &mut Plain, g: Gpn, page: Page, steps: &mut Steps<L>) -> bool
+    requires guest { g.0 < 2 ^ 29 }
+    requires tree { IsTree 16 4 words.old }
+    ensures { words.new ≡ words.old }
+{
+    let tables = Tables {
+        root: Page(4),
+        pages: 16,
+    };
+    let leaf = tables.find(words, g);
+    let walked = tables.walk(words, g, true, steps);
+    found(leaf, page) && matches!(walked, Walked::Found(walked) if walked.0 == page.0)
+}
+
+fn found(leaf: Leaf, page: Page) -> bool {
+    matches!(leaf, Leaf::Present { page: at, shared: false } if at.0 == page.0)
+}
+
+// Whether both guest pages come to their pages, and the guest page behind them to none.
+fn both_found<L: Ledger>(words: &mut Plain, blank: Blank) -> bool
+    requires name { blank.name ≡ L.name }
+    requires parts { blank.parts ≡ L.parts }
+    requires some { 0 < L.parts }
+    requires tree { IsTree 16 4 words.old }
+    ensures { words.new ≡ words.old }
+{
+    let mut steps = Steps::<L>::new(blank);
+    let first = comes_to(words, Gpn(16), Page(10), &mut steps);
+    let second = comes_to(words, Gpn(17), Page(11), &mut steps);
+    let behind = comes_to(words, Gpn(18), Page(0), &mut steps);
+    first && second && !behind
+}
+
+#[test]
+fn two_measured_pages_are_mapped(rt: HostRuntime) -> Result<(), Fail> {
+    let mut words = two_mapped(rt.alloc())?;
+    assert!(rt; both_found::<Brand>(&mut words, Blank::new(1)));
+    let root = words.get(2064);
+    assert_eq!(rt; root % 0x400, 1);
+    assert_eq!(rt; root, 0x2401);
+    assert_eq!(rt; words.get(4624), 0x2001);
+    assert_eq!(rt; words.get(4128), 0x28DF);
+    assert_eq!(rt; words.get(4129), 0x2CDF);
     Ok(())
 }
