@@ -1,0 +1,125 @@
+//! A hart of a monitor.
+
+ghost use Rattle.std.specs.Prelude.{◌≡◌, ◌↔◌, ◌+◌, IsTrue, length};
+ghost use Rattle.std.specs.Option.{option_map};
+ghost use Rattle.cove_base.specs.HartLines.{next_line};
+ghost use Rattle.cove_base.specs.declared.limits.TheConstants.{ENTRY_LIMIT};
+ghost use Rattle.cove_base.specs.declared.walks.Target.{Target};
+ghost use Rattle.cove_core.specs.Reached.{IsPrepared};
+ghost use Rattle.cove_core.specs.Stepped.{IsBehind, IsLimit, IsStill, OnAhead, OnDid};
+ghost use Rattle.cove_hart.specs.HartStates.{hart_value};
+ghost use Rattle.cove_hart.specs.Needs.{next_need};
+ghost use Rattle.cove_hart.specs.declared.needs.Need.TheVariants.{Walk};
+ghost use Rattle.cove_monitor.specs.Events.{HasEntered, HasLooked, HasWalked};
+ghost use Rattle.cove_monitor.specs.Seats.{IsFull, IsKeeper, IsOf, IsSeat, part_of};
+
+use crate::events::held_event;
+use crate::walks::held_walk;
+use cove_base::{Script, Steps};
+use cove_board::{Board, Pass};
+use cove_core::{Mon, Stepped};
+use cove_hart::HartState;
+use std::marker::Model;
+use std::sync::ledger::Ledger;
+
+/// A hart of a monitor, with its pass of the board. What it knows of itself fits the history that it saw last, whatever
+/// entries other harts made since.
+#[derive(Drop)]
+pub struct Hart {
+    state: HartState,
+    pass: Option<Pass>,
+    full: bool,
+}
+
+impl Model for Hart {
+    ghost use Rattle.std.specs.Prelude.{◌≡◌, true};
+    ghost use Rattle.cove_board.specs.Parts.{hart_of};
+    ghost use Rattle.cove_hart.specs.HartStates.{hart_value};
+    ghost use Rattle.cove_monitor.specs.Seats.{HasSeat, IsFull, SeatValue, pass_of};
+
+    ghost Value = { SeatValue };
+
+    ghost view = { λ h. record { held = hart_value h.state; pass = pass_of h.pass; full = h.full } };
+
+    ghost invariant = { λ h. HasSeat (hart_value h.state) h.pass
+        × (h.full ≡ true → IsFull (hart_value h.state) (hart_of (pass_of h.pass).part)) };
+}
+
+impl Hart {
+    /// What the hart holds.
+    pub fn state(&self) -> &HartState
+        ensures state { hart_value result.now ≡ self.now.held }
+        ensures seat { IsSeat self.now.held self.now.pass }
+    {
+        &self.state
+    }
+
+    /// The phase of the hart's next line, where one is left.
+    pub fn phase(&self, script: &Script) -> Option<u32>
+        requires { (part_of self.now).script ≡ script.now }
+        ensures { result ≡ option_map (λ line. line.phase) (next_line script.now self.now.held.hart self.now.held.ended) }
+    {
+        self.state.phase(script)
+    }
+
+    /// Whether the hart came to a full history at its last event, with a line left.
+    pub fn is_full(&self) -> bool
+        ensures full { result ≡ self.now.full }
+        ensures limit { IsTrue result → IsFull self.now.held (part_of self.now) }
+    {
+        self.full
+    }
+
+    // Makes the walk that the hart needs.
+    pub(crate) fn walk<L: Ledger>(
+        &mut self,
+        board: &Board,
+        script: &Script,
+        phase: u32,
+        steps: &mut Steps<L>,
+    )
+        requires script { board.now.script ≡ script.now }
+        requires hart { IsOf board.now.table script.now self.old }
+        requires needed { (target : Target) × (next_need script.now self.old.held phase ≡ Walk target) }
+        ensures hart { IsOf board.now.table script.now self.new }
+        ensures walked { HasWalked script.now phase self.old.held self.new.held (part_of self.old) (part_of self.new) }
+        ensures full { self.new.full ≡ self.old.full }
+        ensures steps { steps.new ≡ steps.old + 1 }
+    {
+        let Some(mut pass) = self.pass.take() else {
+            unreachable!()
+        };
+        held_walk(board, script, &mut self.state, &mut pass, phase, steps);
+        self.pass = Some(pass);
+    }
+
+    // Makes the hart's next event, with the monitor and its pass.
+    pub(crate) fn event(
+        &mut self,
+        mon: &mut Mon,
+        board: &Board,
+        script: &Script,
+        keeper: Pass,
+    ) -> (Stepped, Pass)
+        requires script { board.now.script ≡ script.now }
+        requires hart { IsOf board.now.table script.now self.old }
+        requires keeper { IsKeeper board.now.table mon.old keeper }
+        requires prepared { IsPrepared script.now self.old.held }
+        ensures hart { IsOf board.now.table script.now self.new }
+        ensures keeper { IsKeeper board.now.table mon.new result.1 }
+        ensures entered { OnDid result.0 (HasEntered self.old.held (part_of self.old) (part_of self.new)) }
+        ensures looked { IsStill result.0 (HasLooked (part_of self.old) (part_of self.new) × (self.new.held ≡ self.old.held)) }
+        ensures limit { IsLimit result.0 → length (part_of self.new).seen ≡ ENTRY_LIMIT }
+        ensures full { IsTrue self.new.full ↔ IsLimit result.0 }
+        ensures ahead { OnAhead result.0 (λ other. IsBehind script.now (part_of self.new).seen self.new.held other.0) }
+        ensures same_hart { self.new.held.hart ≡ self.old.held.hart }
+    {
+        let Some(pass) = self.pass.take() else {
+            unreachable!()
+        };
+        let (stepped, pass, keeper) = held_event(mon, board, script, &mut self.state, pass, keeper);
+        self.pass = Some(pass);
+        self.full = matches!(stepped, Stepped::Limit);
+        (stepped, keeper)
+    }
+}
