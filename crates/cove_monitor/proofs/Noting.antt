@@ -10,6 +10,8 @@ use Rattle.cove_board.specs.Parts.{hart_alone, hart_of, walked_part}
 use Rattle.cove_board.specs.Passes.{BoardValue, IsHartPass, PassValue}
 use Rattle.cove_core.proofs.Walking.{needed_walks_leave_alone, wanted}
 use Rattle.cove_hart.specs.Needs.{next_need}
+use Rattle.cove_base.specs.declared.walks.Target.{Target}
+use Rattle.cove_hart.specs.declared.needs.Need.{Need}
 use Rattle.cove_hart.specs.declared.needs.Need.TheVariants.{Walk}
 use Rattle.cove_model.specs.FitsAlone.{FitsAlone}
 use Rattle.cove_monitor.specs.Seats.{IsSeat}
@@ -47,3 +49,7 @@ needed_walk board script held pass phase page limits same right seat needed =
             fits = subst (λ k. FitsAlone k p.seen (after_walk held (Host page) (walked_to page word))) (sym (right.script_is ∙ same)) (law (walked_to page word)).2;
           }));
     }
+
+-- the walk that was answered is the one that is needed
+pub asked_for : (need : Need) (target : Target) (script : ScriptValue) (held : HartValue) (phase : ℕ) (page : Page) → need ≡ next_need script held phase → need ≡ Walk target → target ≡ Host page → next_need script held phase ≡ Walk (Host page)
+asked_for need target script held phase page answered is at = sym answered ∙ is ∙ ap (λ t. Walk t) at

@@ -1,24 +1,28 @@
 //! A hart of a monitor.
 
-ghost use Rattle.std.specs.Prelude.{◌≡◌, ◌↔◌, ◌+◌, IsTrue, length};
+ghost use Rattle.std.specs.Prelude.{◌≡◌, ◌↔◌, ◌+◌, IfOk, IsTrue, false, length};
 ghost use Rattle.std.specs.Option.{option_map};
 ghost use Rattle.cove_base.specs.HartLines.{next_line};
 ghost use Rattle.cove_base.specs.declared.limits.TheConstants.{ENTRY_LIMIT};
 ghost use Rattle.cove_base.specs.declared.walks.Target.{Target};
+ghost use Rattle.cove_board.specs.Passes.{AreDealt};
 ghost use Rattle.cove_core.specs.Reached.{IsPrepared};
 ghost use Rattle.cove_core.specs.Stepped.{IsBehind, IsLimit, IsStill, OnAhead, OnDid};
 ghost use Rattle.cove_hart.specs.HartStates.{hart_value};
 ghost use Rattle.cove_hart.specs.Needs.{next_need};
 ghost use Rattle.cove_hart.specs.declared.needs.Need.TheVariants.{Walk};
+ghost use Rattle.cove_monitor.specs.Closing.{AreFitting, AreFresh, HasMet};
 ghost use Rattle.cove_monitor.specs.Events.{HasEntered, HasLooked, HasWalked};
 ghost use Rattle.cove_monitor.specs.Seats.{IsFull, IsKeeper, IsOf, IsSeat, part_of};
 
+use crate::closing::held_meeting;
 use crate::events::held_event;
 use crate::walks::held_walk;
-use cove_base::{Script, Steps};
-use cove_board::{Board, Pass};
+use cove_base::{NoMemory, Script, Steps};
+use cove_board::{Board, Pass, Passes};
 use cove_core::{Mon, Stepped};
 use cove_hart::HartState;
+use std::alloc::Global;
 use std::marker::Model;
 use std::sync::ledger::Ledger;
 
@@ -46,6 +50,18 @@ impl Model for Hart {
 }
 
 impl Hart {
+    // A hart with its pass.
+    fn new(state: HartState, pass: Pass) -> Self
+        requires { IsSeat (hart_value state) pass }
+        ensures { result ≡ record { held = hart_value state; pass = pass; full = false } }
+    {
+        Hart {
+            state,
+            pass: Some(pass),
+            full: false,
+        }
+    }
+
     /// What the hart holds.
     pub fn state(&self) -> &HartState
         ensures state { hart_value result.now ≡ self.now.held }
@@ -122,4 +138,43 @@ impl Hart {
         self.full = matches!(stepped, Stepped::Limit);
         (stepped, keeper)
     }
+
+    // Meets the hart, with the monitor's pass, as the monitor ends.
+    pub(crate) fn meet(self, board: &Board, mon: &Mon, keeper: Pass) -> Pass
+        requires hart { IsOf board.now.table board.now.script self }
+        requires keeper { IsKeeper board.now.table mon.now keeper }
+        ensures same { result ≡ keeper }
+        ensures met { HasMet board.now.script mon.now.history self.held (part_of self) }
+    {
+        let Hart {
+            state,
+            pass,
+            full: _,
+        } = self;
+        let Some(pass) = pass else { unreachable!() };
+        held_meeting(board, mon, &state, pass, keeper)
+    }
+}
+
+// The harts of a board with their passes, in order.
+pub(crate) fn seat_all(
+    alloc: Global,
+    script: &Script,
+    board: &Board,
+    mut states: Vec<HartState>,
+    mut passes: Passes,
+) -> Result<Vec<Hart>, NoMemory>
+    requires states { AreFitting script.now (length passes) states.items }
+    requires passes { AreDealt script.now board.now.table (length passes) passes }
+    requires harts { length passes ≡ script.now.harts }
+    ensures { IfOk result (λ harts. AreFresh board.now.table script.now harts.items) }
+{
+    let mut harts = Vec::new(alloc);
+    while let Some(state) = states.pop() {
+        let Some(pass) = passes.pop() else {
+            unreachable!()
+        };
+        harts.insert(0, Hart::new(state, pass))?;
+    }
+    Ok(harts)
 }

@@ -8,7 +8,7 @@ ghost use Rattle.cove_core.specs.Stepped.{IsBehind, IsLimit, IsStill, OnAhead, O
 ghost use Rattle.cove_hart.specs.Needs.{next_need};
 ghost use Rattle.cove_hart.specs.declared.needs.Need.TheVariants.{Walk};
 ghost use Rattle.cove_monitor.specs.Events.{HasEntered, HasLooked, HasWalked};
-ghost use Rattle.cove_monitor.specs.Seats.{IsOf, part_of};
+ghost use Rattle.cove_monitor.specs.Seats.{IsKeeper, IsOf, part_of};
 
 use crate::harts::Hart;
 use crate::rooms::Room;
@@ -40,6 +40,18 @@ impl<B: Room> Model for Kept<B> {
 }
 
 impl<B: Room> Kept<B> {
+    // The monitor with its pass.
+    pub(crate) fn new(mon: Mon, pass: Pass) -> Self
+        requires { IsKeeper B.table mon pass }
+        ensures { result ≡ mon.history }
+    {
+        Kept {
+            mon,
+            pass: Some(pass),
+            room: PhantomData,
+        }
+    }
+
     // Makes the next event of a hart.
     pub(crate) fn event(&mut self, board: &Board, script: &Script, hart: &mut Hart) -> Stepped
         requires board { board.now.table ≡ B.table }

@@ -2,18 +2,13 @@ use Rattle.std.proofs.Common.{◌≡◌, ◌<◌, refl, sym, ◌∙◌, ap, subs
 use Rattle.cove_base.specs.HartValues.{after_walk}
 use Rattle.cove_base.specs.Scripts.{ScriptValue}
 use Rattle.cove_board.specs.Passes.{IsHartPass, PassValue}
-use Rattle.cove_base.specs.declared.walks.Target.{Target}
 use Rattle.cove_base.specs.declared.walks.Target.TheVariants.{Host}
 use Rattle.cove_board.specs.Parts.{hart_of}
 use Rattle.cove_hart.specs.HartStates.{hart_value}
 use Rattle.cove_hart.specs.Needs.{next_need}
-use Rattle.cove_hart.specs.declared.needs.Need.{Need}
 use Rattle.cove_hart.specs.declared.needs.Need.TheVariants.{Walk}
-use Rattle.cove_monitor.proofs.Noting.{alone_by, needed_walk}
+use Rattle.cove_monitor.proofs.Noting.{alone_by, asked_for, needed_walk}
 use Rattle.cove_monitor.proofs.walks.held_walk.Goals as goal
-
-abbrev walk_to : Target → Need
-walk_to target = Walk target
 
 pub next-requires : goal.next-requires
 next-requires g c =
@@ -25,7 +20,7 @@ walk_host-walked-requires g c =
     let script = c.args.script.now in
     let held = hart_value c.args.state.now in
     let page = c.in-Walk-Host.page in
-    let asks : next_need script held c.args.phase ≡ Walk (Host page) = sym c.next.ensures ∙ c.in-Walk-Host.is ∙ ap walk_to c.in-Walk-Host.field-0-is in
+    let asks : next_need script held c.args.phase ≡ Walk (Host page) = asked_for c.next.result c.in-Walk-Host.field-0 script held c.args.phase page c.next.ensures c.in-Walk-Host.is c.in-Walk-Host.field-0-is in
     let need = needed_walk board script held c.args.pass.now c.args.phase page c.within_limits.ensures c.requires.script c.requires.pass c.requires.seat asks in
     record {
       pass = c.requires.pass;
@@ -39,7 +34,7 @@ note-requires g c =
     let script = c.args.script.now in
     let held = hart_value c.args.state.now in
     let page = c.in-Walk-Host.page in
-    let asks : next_need script held c.args.phase ≡ Walk (Host page) = sym c.next.ensures ∙ c.in-Walk-Host.is ∙ ap walk_to c.in-Walk-Host.field-0-is in
+    let asks : next_need script held c.args.phase ≡ Walk (Host page) = asked_for c.next.result c.in-Walk-Host.field-0 script held c.args.phase page c.next.ensures c.in-Walk-Host.is c.in-Walk-Host.field-0-is in
     (needed_walk board script held c.args.pass.now c.args.phase page c.within_limits.ensures c.requires.script c.requires.pass c.requires.seat asks).lacks
 
 pub returns : goal.returns
@@ -49,7 +44,7 @@ returns g c =
     let held = hart_value c.args.state.now in
     let pass = c.args.pass.now in
     let page = c.in-Walk-Host.page in
-    let asks : next_need script held c.args.phase ≡ Walk (Host page) = sym c.next.ensures ∙ c.in-Walk-Host.is ∙ ap walk_to c.in-Walk-Host.field-0-is in
+    let asks : next_need script held c.args.phase ≡ Walk (Host page) = asked_for c.next.result c.in-Walk-Host.field-0 script held c.args.phase page c.next.ensures c.in-Walk-Host.is c.in-Walk-Host.field-0-is in
     let walk = c.walk_host-walked.ensures.walked in
     let noted = c.note.ensures ∙ ap (after_walk held (Host page)) walk.1 in
     let need = needed_walk board script held pass c.args.phase page c.within_limits.ensures c.requires.script c.requires.pass c.requires.seat asks in
