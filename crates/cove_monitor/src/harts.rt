@@ -10,7 +10,7 @@ ghost use Rattle.cove_core.specs.Reached.{IsPrepared};
 ghost use Rattle.cove_core.specs.Stepped.{IsBehind, IsLimit, IsStill, OnAhead, OnDid};
 ghost use Rattle.cove_hart.specs.HartStates.{hart_value};
 ghost use Rattle.cove_hart.specs.Needs.{next_need};
-ghost use Rattle.cove_hart.specs.declared.needs.Need.TheVariants.{Walk};
+ghost use Rattle.cove_hart.specs.declared.needs.Need.TheVariants.{Event, Walk};
 ghost use Rattle.cove_monitor.specs.Closing.{AreFitting, AreFresh, HasMet};
 ghost use Rattle.cove_monitor.specs.Events.{HasEntered, HasLooked, HasWalked};
 ghost use Rattle.cove_monitor.specs.Seats.{IsFull, IsKeeper, IsOf, IsSeat, part_of};
@@ -21,7 +21,7 @@ use crate::walks::held_walk;
 use cove_base::{NoMemory, Script, Steps};
 use cove_board::{Board, Pass, Passes};
 use cove_core::{Mon, Stepped};
-use cove_hart::HartState;
+use cove_hart::{HartState, Need};
 use std::alloc::Global;
 use std::marker::Model;
 use std::sync::ledger::Ledger;
@@ -68,6 +68,15 @@ impl Hart {
         ensures seat { IsSeat self.now.held self.now.pass }
     {
         &self.state
+    }
+
+    /// What the hart needs next, while lines up to a phase may be made.
+    pub fn next(&self, script: &Script, phase: u32) -> Need
+        requires { (part_of self.now).script ≡ script.now }
+        ensures need { result ≡ next_need script.now self.now.held phase }
+        ensures prepared { result ≡ Event → IsPrepared script.now self.now.held }
+    {
+        self.state.next(script, phase)
     }
 
     /// The phase of the hart's next line, where one is left.
