@@ -1,0 +1,5 @@
+pub mod Joining
+pub mod Leaving
+pub mod Meeting
+pub mod Noting
+pub mod Seating
