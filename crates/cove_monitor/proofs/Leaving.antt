@@ -183,6 +183,7 @@ module _ (script : ScriptValue) (table : TableId) (mon new : Mon) (state left : 
     seen = made_history ∙ ap (λ es. es ++ entry ∷ []) seen_is;
     place_is = ap length (j.history ∙ seen_is);
     missed = made_missed;
+    used = ap (λ (g : Guard). g.walk) made_guard;
   }
     where
       seen_is : (monitor_of held.part).history ≡ before.seen ++ j.seen.0

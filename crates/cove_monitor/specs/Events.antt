@@ -28,8 +28,8 @@ NamesNone rings (LoadFault addr) = found (page_of addr) rings.hosts ≡ None
 NamesNone rings (StoreFault addr value) = found (page_of addr) rings.hosts ≡ None
 NamesNone rings event = Unit {0}
 
--- A hart made one entry, and no other. The history that it saw begins with the one that it had seen, and ends with the
--- entry, which stands at this place.
+-- A hart made one entry, and no other, for which it used up its walk or dropped it. The history that it saw begins with
+-- the one that it had seen, and ends with the entry, which stands at this place.
 pub record HasEntered (held : HartValue) (before now : HartPart) (place : ℕ) : Type 0 where
   pub entry : Entry
   pub between : List Entry
@@ -37,6 +37,7 @@ pub record HasEntered (held : HartValue) (before now : HartPart) (place : ℕ) :
   pub seen : now.seen ≡ (before.seen ++ between) ++ entry ∷ []
   pub place_is : place ≡ length (before.seen ++ between)
   pub missed : NamesNone held.rings entry.event
+  pub used : now.walked ≡ None
 
 -- a hart made no entry, and saw a history that begins with the one that it had seen
 pub record HasLooked (before now : HartPart) : Type 0 where
