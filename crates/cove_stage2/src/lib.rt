@@ -4,8 +4,8 @@
 //! Each call that reads leaves the words, and says what it reads by the definitions of cove_base: `find` gives the
 //! leaf of a guest page, `walk` comes to the page of the same leaf in at most three loads, and `need` counts the
 //! tables that a run of mappings lacks. `map`, `block`, `unblock` and `unmap` give the list of their stores, and change
-//! one leaf and no other (`ChangesLeaf`, `NamesWay`, `KeepsLinks`). None but `Pool::new` takes memory. It stands on
-//! `Words` alone.
+//! one leaf and no other (`ChangesLeaf`, `NamesWay`, `KeepsLinks`); `clear` makes the table words of a page zeros. None
+//! but `Pool::new` takes memory. It stands on `Words` alone.
 
 mod entries;
 mod pools;
