@@ -8,10 +8,10 @@ use Rattle.cove_base.specs.declared.events.Event.{Event}
 use Rattle.cove_base.specs.declared.events.Event.TheVariants as events
 use Rattle.cove_base.specs.declared.limits.TheConstants.{ENTRY_LIMIT}
 use Rattle.cove_journal.specs.Lines.{is_writable}
-use Rattle.cove_model.specs.Histories.{Follows, EachEntry, Legal, after}
+use Rattle.cove_model.specs.Histories.{EachEntry, Legal, after}
 use Rattle.cove_model.specs.Played.{IsOver}
 use Rattle.cove_model.specs.Steps.{Allows}
-use Rattle.cove_model.proofs.Beginning.{legal_begins, outside_due, over_follows}
+use Rattle.cove_model.proofs.Beginning.{legal_begins, outside_due}
 use Rattle.cove_model.proofs.Histories.{legal_quiet}
 use Rattle.cove_model.proofs.Playing.{played_fits}
 use Rattle.cove_model.proofs.Progress.{played_ends, played_size}
@@ -29,9 +29,6 @@ is_history script within =
       cached = fits.1;
       quiet = legal_quiet script limits (history_of script) fits.0;
     }
-
-pub follows_whole : (script : ScriptValue) → IsTrue (is_within_limits script) → IsOver script (history_of script) → Follows script (history_of script)
-follows_whole script within over = over_follows script (history_of script) (is_history script within).legal over
 
 pub full_else : (script : ScriptValue) → (IsOver script (history_of script) → ⊥) → length (history_of script) ≡ ENTRY_LIMIT
 full_else script open_lines =

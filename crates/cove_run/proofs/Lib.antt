@@ -1,3 +1,4 @@
+pub mod EndingLemmas
 pub mod HistoryLemmas
 pub mod PrintLemmas
 pub mod ReadableEntries

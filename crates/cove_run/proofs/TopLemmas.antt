@@ -5,7 +5,7 @@ use Rattle.cove_base.specs.Scripts.{ScriptValue}
 use Rattle.cove_base.specs.declared.faults.Kind.TheVariants.{TooLong}
 use Rattle.cove_base.specs.declared.faults.ScriptFault.{ScriptFault}
 use Rattle.cove_base.specs.declared.limits.TheConstants.{SCRIPT_LIMIT}
-use Rattle.cove_io.specs.Ends.{TakesExactly}
+use Rattle.cove_io.specs.Ends.{TakesAtMost, TakesExactly}
 use Rattle.cove_model.specs.Grammar.{script_of, fault_at}
 use Rattle.cove_run.specs.TopCall.{Reads, ReadsWhole}
 
@@ -37,3 +37,8 @@ pub faulty_is_no_script : (old new : Option (List ℕ)) (bytes : List ℕ) (faul
 faulty_is_no_script old new bytes fault script told read spelled =
     let faulty : script_of SCRIPT_LIMIT bytes ≡ Err fault = told_reads bytes new (Err fault) (subst (λ o. Reads o new (Err fault)) told read) in
     cc
+
+-- a script takes at most as many bytes as one may have
+pub script_takes_few : (old new : Option (List ℕ)) (script : ScriptValue) → Reads old new (Ok script) → TakesAtMost SCRIPT_LIMIT old new
+script_takes_few old new script =
+    ⊎_elim (λ read. (read.0, read.1.within, read.1.consumed)) (λ long. let wrong = long.1 in cc)

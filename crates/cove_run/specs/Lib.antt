@@ -1,2 +1,4 @@
 pub mod Printing
+pub mod Threads
 pub mod TopCall
+pub mod Working

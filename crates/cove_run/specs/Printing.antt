@@ -19,9 +19,17 @@ kind_text WrongCount = codes "WrongCount"
 kind_text OutOfBoard = codes "OutOfBoard"
 kind_text NoEnd = codes "NoEnd"
 
--- the line that refuses an input
+-- the line that refuses an input: the number of a line, and a word for what is wrong there
+abbrev pub refused_line : (number : ℕ) (word : List ℕ) → List ℕ
+refused_line number word = codes "refused" ++ spaced (natural_text number) ++ spaced word ++ 10 ∷ []
+
+-- the line that refuses an input with a fault
 abbrev pub refusal_line : ScriptFault → List ℕ
-refusal_line fault = codes "refused" ++ spaced (natural_text fault.line) ++ spaced (kind_text fault.kind) ++ 10 ∷ []
+refusal_line fault = refused_line fault.line (kind_text fault.kind)
+
+-- the line that refuses a script which harts on threads do not run
+abbrev pub not_built_line : List ℕ
+not_built_line = refused_line 0 (codes "NotBuilt")
 
 -- every entry of a history has a line
 abbrev pub AreWritable : List Entry → Type 0

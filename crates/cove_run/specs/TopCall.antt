@@ -8,11 +8,10 @@ use Rattle.cove_base.specs.declared.faults.ScriptFault.{ScriptFault}
 use Rattle.cove_base.specs.declared.limits.TheConstants.{ENTRY_LIMIT, SCRIPT_LIMIT}
 use Rattle.cove_io.specs.Ends.{TakesExactly}
 use Rattle.cove_journal.specs.Journals.{journal_history}
-use Rattle.cove_model.specs.Cached.{IsCached, IsQuiet}
-use Rattle.cove_model.specs.Histories.{Begins, Legal}
 use Rattle.cove_model.specs.Grammar.{script_of, fault_at}
 use Rattle.cove_model.specs.Played.{IsOver, played}
 use Rattle.cove_model.specs.Reports.{report, report_limit}
+use Rattle.cove_monitor.specs.Closing.{IsRight}
 use Rattle.cove_run.specs.Printing.{refusal_line}
 
 -- these bytes were read, to their end; a script has no more
@@ -33,11 +32,8 @@ history_of script = played ENTRY_LIMIT script
 
 -- a history of a script: legal, with each hart's lines once and in order, with hits and walks as the harts' TLBs have
 -- them, and in which no page changes hands while a TLB names it
-pub record IsHistoryOf (script : ScriptValue) (history : List Entry) : Type 0 where
-  pub legal : Legal script history
-  pub begins : Begins script history
-  pub cached : IsCached script history
-  pub quiet : IsQuiet script history
+abbrev pub IsHistoryOf : ScriptValue → List Entry → Type 0
+IsHistoryOf script history = IsRight script history
 
 -- the journal of a history reads as that history, and tells whether every line is ended or the limit came first
 abbrev pub IsReadBack : List Entry → Type 0
@@ -45,9 +41,12 @@ IsReadBack history =
     (journal_history (report history) ≡ Some (history, true))
     × (journal_history (report_limit history) ≡ Some (history, false))
 
+-- the text that is printed of a history of a script: its journal, whole or up to the limit
+abbrev pub PrintsHistory : ScriptValue → (history : List Entry) (text : List ℕ) → Type 0
+PrintsHistory script history text =
+    (IsOver script history × (text ≡ report history)) ⊎ ((IsOver script history → ⊥) × (text ≡ report_limit history))
+
 -- the text that is printed where this script was read, or its fault
 abbrev pub Prints : Result ScriptValue ScriptFault → (text : List ℕ) → Type 0
-Prints (Ok script) text =
-    (IsOver script (history_of script) × (text ≡ report (history_of script)))
-    ⊎ ((IsOver script (history_of script) → ⊥) × (text ≡ report_limit (history_of script)))
+Prints (Ok script) text = PrintsHistory script (history_of script) text
 Prints (Err fault) text = text ≡ refusal_line fault

@@ -1,14 +1,17 @@
 //! The printed journal, read again.
 
-ghost use Rattle.std.specs.Prelude.{◌≡◌, ◌<◌, ℕ, true, false, length, slice_index_or, Some, IsTrue};
+ghost use Rattle.std.specs.Prelude.{◌≡◌, ◌<◌, ◌≤◌, ℕ, true, false, length, slice_index_or, Some, IsTrue};
 ghost use Rattle.std.specs.List.{list_all};
 ghost use Rattle.cove_base.specs.Scripts.{ScriptValue, is_within_limits};
 ghost use Rattle.cove_base.specs.declared.events.Entry.{Entry};
+ghost use Rattle.cove_base.specs.declared.limits.TheConstants.{ENTRY_LIMIT};
 ghost use Rattle.cove_journal.specs.Forms.{is_sized};
 ghost use Rattle.cove_journal.specs.Journals.{is_readable, journal_history};
-ghost use Rattle.cove_model.specs.Histories.{Legal};
+ghost use Rattle.cove_model.specs.Histories.{Follows, Legal};
+ghost use Rattle.cove_model.specs.Played.{IsOver};
 ghost use Rattle.cove_model.specs.Reports.{report, report_limit};
-ghost use Rattle.cove_run.specs.TopCall.{IsReadBack, history_of};
+ghost use Rattle.cove_run.specs.Printing.{AreWritable};
+ghost use Rattle.cove_run.specs.TopCall.{IsHistoryOf, IsReadBack};
 
 use cove_base::{History, Script};
 use cove_journal::event_fits;
@@ -27,13 +30,17 @@ pub fn printed_journals_are_read_back(history: &History)
     entries_fit(history);
 }
 
-// The journal of the history that a script plays is read back.
-pub(crate) fn played_journal_is_read_back(history: &History, script: &Script)
-    requires { history.now ≡ history_of script.now }
-    ensures { IsReadBack (history_of script.now) }
+/// What holds of every history of a script.
+pub(crate) fn history_facts(history: &History, script: &Script)
+    requires { IsHistoryOf script.now history.now }
+    ensures follows { IsOver script.now history.now → Follows script.now history.now }
+    ensures writable { AreWritable history.now }
+    ensures read_back { IsReadBack history.now }
+    ensures few { length history.now ≤ ENTRY_LIMIT }
 {
     printed_journals_are_read_back(history);
     let _pages = script.pages;
+    let _entries = history.len();
 }
 
 // The numbers of the entries of a history have 64 bits.

@@ -1,13 +1,16 @@
 //! Worked cases of the words that the clauses of the top call speak in.
 
-ghost use Rattle.std.specs.Prelude.{◌≡◌, ◌+◌, ◌++◌, [], Some, Ok, Err, List, ℕ, length, codes};
+ghost use Rattle.std.specs.Prelude.{◌≡◌, ◌+◌, ◌++◌, [], ◌∷◌, true, false, Some, Ok, Err, List, ℕ, length, codes};
 ghost use Rattle.cove_base.specs.Scripts.{ScriptValue};
+ghost use Rattle.cove_base.specs.declared.calls.HostCall.TheVariants.{Convert, GlobalFence, LocalFence, Reclaim, Info, Kick};
 ghost use Rattle.cove_base.specs.declared.faults.Kind.TheVariants.{TooLong, NotAscii, BadHeader, UnknownWord, BadNumber, WrongCount, OutOfBoard, NoEnd};
 ghost use Rattle.cove_base.specs.declared.limits.TheConstants.{SCRIPT_LIMIT};
+ghost use Rattle.cove_base.specs.declared.scripts.Line.TheVariants.{Call, Load, Store};
 ghost use Rattle.cove_model.specs.Grammar.{fault_at};
 ghost use Rattle.cove_model.specs.Played.{IsOver};
 ghost use Rattle.cove_model.specs.Reports.{ended_line, report, report_limit};
-ghost use Rattle.cove_run.specs.Printing.{refusal_line};
+ghost use Rattle.cove_run.specs.Printing.{not_built_line, refusal_line};
+ghost use Rattle.cove_run.specs.Threads.{Refuses, line_of_0, runs_on_threads};
 ghost use Rattle.cove_run.specs.TopCall.{Prints, Reads, ReadsWhole, history_of};
 
 /// The line of each kind of refusal; what is read whole and what is not; what is printed and what is not.
@@ -36,4 +39,19 @@ pub fn worked_texts()
         → Prints (Ok script) (report_limit (history_of script)) × (Prints (Ok script) (report (history_of script)) → ⊥) }
     ensures prints_the_fault { Prints (Err (fault_at 3 BadNumber)) (ended_line (codes "refused 3 BadNumber"))
         × (Prints (Err (fault_at 3 BadNumber)) (codes "refused 3 BadNumber") → ⊥) }
+{}
+
+/// A script that harts on threads run, and one that they do not.
+pub fn worked_threads()
+    ensures every_line { (script : ScriptValue) → script.lines ≡ line_of_0 (Call (Convert 16384 1)) ∷ line_of_0 (Call GlobalFence)
+        ∷ line_of_0 (Call LocalFence) ∷ line_of_0 (Call (Reclaim 16384 1)) ∷ line_of_0 (Call Info)
+        ∷ line_of_0 (Load 16384) ∷ line_of_0 (Store 16384 7) ∷ [] → runs_on_threads script ≡ true }
+    ensures no_line { (script : ScriptValue) → script.lines ≡ [] → runs_on_threads script ≡ true }
+    ensures a_kick { (script : ScriptValue) → script.lines ≡ line_of_0 (Call GlobalFence) ∷ line_of_0 (Call (Kick 0)) ∷ []
+        → runs_on_threads script ≡ false }
+    ensures its_line { not_built_line ≡ ended_line (codes "refused 0 NotBuilt") }
+    ensures not_built { (script : ScriptValue) → runs_on_threads script ≡ false
+        → Refuses (Ok script) (ended_line (codes "refused 0 NotBuilt")) }
+    ensures not_refused { (script : ScriptValue) (text : List ℕ) → runs_on_threads script ≡ true
+        → Refuses (Ok script) text → ⊥ }
 {}

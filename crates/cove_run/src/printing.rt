@@ -5,9 +5,9 @@ ghost use Rattle.std.specs.Io.KnownBytes.{Appends};
 ghost use Rattle.cove_io.specs.Ends.{AppendsFront, Rose};
 ghost use Rattle.cove_journal.specs.Lines.{is_writable, last_line_of};
 ghost use Rattle.cove_model.specs.Reports.{ended_line, entry_line, journal};
-ghost use Rattle.cove_run.specs.Printing.{AreWritable, kind_text, refusal_line};
+ghost use Rattle.cove_run.specs.Printing.{AreWritable, kind_text, refused_line};
 
-use cove_base::{Entry, History, Kind, ScriptFault};
+use cove_base::{Entry, History, Kind};
 use cove_io::{Failed, Sink, write_all};
 use cove_journal::{last_line, line};
 use cove_text::{LineBuf, put_decimal};
@@ -54,25 +54,26 @@ fn put_last(text: &mut LineBuf, entries: u32, is_whole: bool)
     text.push(b'\n');
 }
 
-/// Prints the one line that refuses an input.
-pub fn print_refusal<K: Sink>(fault: ScriptFault, sink: &mut K) -> Result<(), Failed>
+/// Prints the one line that refuses an input: the number of a line, and a word for what is wrong there.
+pub fn print_refusal<K: Sink>(number: u32, word: &[u8], sink: &mut K) -> Result<(), Failed>
+    requires { length word.now ≤ 11 }
     ensures count { K.count sink.old ≤ K.count sink.new }
     ensures clean { OnOk result (K.count sink.new ≡ K.count sink.old) }
-    ensures ok { OnOk result (Appends (K.taken sink.old) (K.taken sink.new) (refusal_line fault)) }
+    ensures ok { OnOk result (Appends (K.taken sink.old) (K.taken sink.new) (refused_line number word.now)) }
     ensures failed { OnErr result (Rose (K.count sink.old) (K.count sink.new)) }
-    ensures front { OnErr result (AppendsFront (K.taken sink.old) (K.taken sink.new) (refusal_line fault)) }
+    ensures front { OnErr result (AppendsFront (K.taken sink.old) (K.taken sink.new) (refused_line number word.now)) }
 {
     let mut text = LineBuf::new();
     text.put_bytes(b"refused ");
-    put_decimal(&mut text, i64::from(fault.line));
+    put_decimal(&mut text, i64::from(number));
     text.push(b' ');
-    text.put_bytes(kind_word(fault.kind));
+    text.put_bytes(word);
     text.push(b'\n');
     write_all(sink, text.as_slice())
 }
 
-// The word of a kind of fault.
-fn kind_word(kind: Kind) -> &'static [u8]
+/// The word of a kind of fault.
+pub fn kind_word(kind: Kind) -> &'static [u8]
     ensures word { result.now ≡ kind_text kind }
     ensures short { length result.now ≤ 11 }
 {

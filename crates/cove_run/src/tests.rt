@@ -1,7 +1,9 @@
-use crate::{USAGE, tsm_alone};
+use crate::{Gate, Place, USAGE, tsm_alone, tsm_threads};
 use cove_base::{Bytes, NoMemory, Turns};
 use cove_io::{MemSink, MemSource, NullSink, SureSource};
+use cove_monitor::Hart;
 use std::alloc::{AllocError, Global};
+use std::sync::atomic::{AtomicBool, Ordering};
 use std::test::Fail;
 
 const FIRST: &[u8] =
@@ -128,5 +130,133 @@ fn words_that_name_no_command(rt: HostRuntime) -> Result<(), Fail> {
         USAGE,
         "usage: tsm sched | run | gen N | audit | verify | host | pool N W"
     );
+    Ok(())
+}
+
+// How often a hart looks whether the other one has come, at most.
+const LOOKS: u32 = 200_000_000;
+
+// Holds hart 0 right after its walk until hart 1 comes to its event, and hart 1 there until hart 0 was held.
+#[derive(Drop)]
+struct Meeting {
+    walked: AtomicBool,
+    comes: AtomicBool,
+    missed: AtomicBool,
+}
+
+impl Meeting {
+    fn new() -> Self {
+        Meeting {
+            walked: AtomicBool::new(false),
+            comes: AtomicBool::new(false),
+            missed: AtomicBool::new(false),
+        }
+    }
+
+    // Tells that one hart has come, and waits for the other one.
+    fn meet(&self, own: &AtomicBool, other: &AtomicBool) {
+        own.store(true, Ordering::SeqCst);
+        for _ in 0..LOOKS {
+            if other.load(Ordering::SeqCst) {
+                return;
+            }
+        }
+        self.missed.store(true, Ordering::SeqCst);
+    }
+
+    // Whether both harts came, and neither waited in vain.
+    fn was_held(&self) -> bool {
+        self.walked.load(Ordering::SeqCst)
+            && self.comes.load(Ordering::SeqCst)
+            && !self.missed.load(Ordering::SeqCst)
+    }
+}
+
+impl Gate for Meeting {
+    fn pass(&self, hart: &Hart, place: Place) {
+        match (hart.state().hart.0, place) {
+            (0, Place::AfterWalk) => self.meet(&self.walked, &self.comes),
+            (1, Place::BeforeEvent) => self.meet(&self.comes, &self.walked),
+            _ => {}
+        }
+    }
+}
+
+#[test]
+fn two_harts_are_between_walk_and_event_at_once(rt: HostRuntime) -> Result<(), Fail> {
+    let alloc = rt.alloc();
+    let words = words_of(alloc, &["run"])?;
+    let mut source = SureSource::new(bytes_of(
+        alloc,
+        b"board 16 2 0\n0 ld 0x4000\n1 ld 0x5000\nend\n",
+    )?);
+    let mut sink = MemSink::new(alloc, 1000, Turns::new(alloc))?;
+    let gate = Meeting::new();
+    let mut closed = None;
+    assert_eq!(rt;
+        tsm_threads(
+            &rt,
+            alloc,
+            words.as_slice(),
+            &mut source,
+            &mut sink,
+            &gate,
+            &mut closed
+        ),
+        0
+    );
+    assert!(rt; gate.was_held());
+    let lines: [&[u8]; 2] = [
+        b"0 ld 0x4000 walk 0000000000000000\n1 ld 0x5000 walk 0000000000000000\nend 2\n",
+        b"1 ld 0x5000 walk 0000000000000000\n0 ld 0x4000 walk 0000000000000000\nend 2\n",
+    ];
+    assert!(rt; sink.as_slice() == lines[0] || sink.as_slice() == lines[1]);
+    assert!(rt; closed.is_some());
+    Ok(())
+}
+
+// Holds no hart.
+#[derive(Drop)]
+struct Open;
+
+impl Gate for Open {
+    fn pass(&self, _hart: &Hart, _place: Place) {}
+}
+
+#[test]
+fn texts_on_threads_and_their_journals(rt: HostRuntime) -> Result<(), Fail> {
+    let alloc = rt.alloc();
+    let words = words_of(alloc, &["run"])?;
+    let table: [(&[u8], (&[u8], u8)); 4] = [
+        (FIRST, (JOURNAL, 0)),
+        (PHASES, (PHASES_JOURNAL, 0)),
+        (
+            b"board 16 1 0\n0 gfence\n0 kick 0\nend\n",
+            (b"refused 0 NotBuilt\n", 3),
+        ),
+        (
+            b"board 16 1 0\n0 fly\nend\n",
+            (b"refused 2 UnknownWord\n", 3),
+        ),
+    ];
+    for (text, (journal, status)) in table {
+        let mut source = SureSource::new(bytes_of(alloc, text)?);
+        let mut sink = MemSink::new(alloc, 1000, Turns::new(alloc))?;
+        let mut closed = None;
+        assert_eq!(rt;
+            tsm_threads(
+                &rt,
+                alloc,
+                words.as_slice(),
+                &mut source,
+                &mut sink,
+                &Open,
+                &mut closed
+            ),
+            status
+        );
+        assert_eq!(rt; sink.as_slice(), journal);
+        assert_eq!(rt; closed.is_some(), status == 0);
+    }
     Ok(())
 }

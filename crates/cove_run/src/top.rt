@@ -1,6 +1,6 @@
 //! The top call: from the bytes of a script to the bytes of its journal.
 
-ghost use Rattle.std.specs.Prelude.{◌≡◌, ◌<◌, ◌≢◌, ◌⊎◌, ◌↔◌, IsTrue, IfOk, IsErrOf, true, false, Some, Ok, Err, List, ℕ, length};
+ghost use Rattle.std.specs.Prelude.{◌≡◌, ◌<◌, ◌≤◌, ◌≢◌, ◌⊎◌, ◌↔◌, IsTrue, IfOk, true, false, Some, Ok, Err, List, ℕ, length};
 ghost use Rattle.std.specs.Io.KnownBytes.{Appends};
 ghost use Rattle.cove_base.specs.Scripts.{ScriptValue};
 ghost use Rattle.cove_io.specs.Ends.{AppendsFront, Rose, TakesAtMost};
@@ -12,50 +12,16 @@ ghost use Rattle.cove_model.specs.Reports.{report, report_limit};
 ghost use Rattle.cove_run.specs.Printing.{AreWritable, refusal_line};
 ghost use Rattle.cove_run.specs.TopCall.{IsHistoryOf, IsReadBack, Prints, Reads, history_of};
 
-use crate::journals::played_journal_is_read_back;
-use crate::printing::{print_journal, print_refusal};
-use cove_base::{ENTRY_LIMIT, History, Kind, NoMemory, SCRIPT_LIMIT, Script, ScriptFault};
+use crate::endings::{print_history, refuse_fault};
+use crate::reading::{Unread, read_script};
+use crate::statuses::{BAD_WORDS, NO_MEMORY, SOURCE_FAULT};
+use cove_base::{ENTRY_LIMIT, History, NoMemory, SCRIPT_LIMIT, Script};
 use cove_core::{build, play};
-use cove_io::{Failed, ReadError, Sink, Source, read_all};
-use cove_script::{ParseError, parse};
+use cove_io::{Sink, Source};
 use std::alloc::Global;
 
 /// What the program prints on standard error where its words name no command.
 pub const USAGE: &str = "usage: tsm sched | run | gen N | audit | verify | host | pool N W";
-
-/// All lines were made and printed.
-const DONE: u8 = 0;
-
-/// Memory ran out before the first write.
-const NO_MEMORY: u8 = 1;
-
-/// The words name no command.
-const BAD_WORDS: u8 = 2;
-
-/// The input is no script.
-const REFUSED: u8 = 3;
-
-/// The history came to its limit before all lines were made; what was made is printed.
-const AT_LIMIT: u8 = 4;
-
-/// The source met a fault.
-const SOURCE_FAULT: u8 = 5;
-
-/// The sink met a fault.
-const SINK_FAULT: u8 = 6;
-
-/// The fault of an input with more bytes than a script may have.
-const TOO_LONG: ScriptFault = ScriptFault {
-    line: 0,
-    kind: Kind::TooLong,
-};
-
-// Why no script was read.
-enum Unread {
-    Refused(ScriptFault),
-    Fault,
-    NoMemory,
-}
 
 /// Runs a command: `sched` reads a script, runs it by turns, and prints its journal. The words are looked at
 /// first; then the input is read to its end, or to one byte more than a script may have; then it is parsed; then
@@ -124,7 +90,7 @@ pub fn tsm_alone<S: Source, K: Sink>(
     }
     match read_script(alloc, source) {
         Ok(script) => run(alloc, &script, sink),
-        Err(Unread::Refused(fault)) => refuse(fault, sink),
+        Err(Unread::Refused(fault)) => refuse_fault(fault, sink),
         Err(Unread::Fault) => SOURCE_FAULT,
         Err(Unread::NoMemory) => NO_MEMORY,
     }
@@ -137,50 +103,6 @@ fn accepts(words: &[String]) -> bool
     match words {
         [word] => word.as_str() == "sched",
         _ => false,
-    }
-}
-
-// Reads a source to its end, or to one byte more than a script may have, for the script that it spells.
-fn read_script<S: Source>(alloc: Global, source: &mut S) -> Result<Script, Unread>
-    ensures script { IfOk result (λ script. Reads (S.left source.old) (S.left source.new) (Ok script)) }
-    ensures refused { (fault : _) → IsErrOf result (Unread.Refused fault)
-        → Reads (S.left source.old) (S.left source.new) (Err fault) }
-    ensures fault { IsErrOf result Unread.Fault → Rose (S.count source.old) (S.count source.new) }
-    ensures clean { ¬ IsErrOf result Unread.Fault → S.count source.new ≡ S.count source.old }
-    ensures memory { IsErrOf result Unread.NoMemory → TakesAtMost SCRIPT_LIMIT (S.left source.old) (S.left source.new) }
-{
-    match read_all(alloc, source, SCRIPT_LIMIT) {
-        Ok(text) => script_of_text(alloc, text.as_slice()),
-        Err(ReadError::TooLong) => Err(Unread::Refused(TOO_LONG)),
-        Err(ReadError::Failed) => Err(Unread::Fault),
-        Err(ReadError::Memory) => Err(Unread::NoMemory),
-    }
-}
-
-// The script of a text.
-fn script_of_text(alloc: Global, text: &[u8]) -> Result<Script, Unread>
-    ensures script { IfOk result (λ script. script_of SCRIPT_LIMIT text.now ≡ Ok script) }
-    ensures refused { (fault : _) → IsErrOf result (Unread.Refused fault) → script_of SCRIPT_LIMIT text.now ≡ Err fault }
-    ensures no_fault { result ≢ Err Unread.Fault }
-{
-    match parse(alloc, text) {
-        Ok(script) => Ok(script),
-        Err(ParseError::Refused(fault)) => Err(Unread::Refused(fault)),
-        Err(ParseError::Memory) => Err(Unread::NoMemory),
-    }
-}
-
-// Prints the one line that refuses an input.
-fn refuse<K: Sink>(fault: ScriptFault, sink: &mut K) -> u8
-    ensures refused { result ≡ 3 → Appends (K.taken sink.old) (K.taken sink.new) (refusal_line fault) }
-    ensures sink_fault { result ≡ 6 → Rose (K.count sink.old) (K.count sink.new)
-        × AppendsFront (K.taken sink.old) (K.taken sink.new) (refusal_line fault) }
-    ensures clean { result ≢ 6 → K.count sink.new ≡ K.count sink.old }
-    ensures statuses { (result ≡ 3) ⊎ (result ≡ 6) }
-{
-    match print_refusal(fault, sink) {
-        Ok(()) => REFUSED,
-        Err(Failed) => SINK_FAULT,
     }
 }
 
@@ -203,11 +125,11 @@ fn run<K: Sink>(alloc: Global, script: &Script, sink: &mut K) -> u8
     let Ok((history, is_whole)) = play_out(alloc, script) else {
         return NO_MEMORY;
     };
-    print_whole(&history, is_whole, script, sink)
+    print_played(&history, is_whole, script, sink)
 }
 
 // Prints the journal of the history that a script plays.
-fn print_whole<K: Sink>(history: &History, is_whole: bool, script: &Script, sink: &mut K) -> u8
+fn print_played<K: Sink>(history: &History, is_whole: bool, script: &Script, sink: &mut K) -> u8
     requires history { history.now ≡ history_of script.now }
     requires whole { IsTrue is_whole ↔ IsOver script.now (history_of script.now) }
     ensures done { result ≡ 0 → IsOver script.now (history_of script.now)
@@ -224,20 +146,13 @@ fn print_whole<K: Sink>(history: &History, is_whole: bool, script: &Script, sink
     ensures statuses { (result ≡ 0) ⊎ ((result ≡ 4) ⊎ (result ≡ 6)) }
 {
     played_facts(script);
-    played_journal_is_read_back(history, script);
-    match print_journal(history, is_whole, sink) {
-        Ok(()) if is_whole => DONE,
-        Ok(()) => AT_LIMIT,
-        Err(Failed) => SINK_FAULT,
-    }
+    print_history(history, is_whole, script, sink)
 }
 
 // What holds of the history that a script plays.
 fn played_facts(script: &Script)
     ensures history { IsHistoryOf script.now (history_of script.now) }
-    ensures follows { IsOver script.now (history_of script.now) → Follows script.now (history_of script.now) }
-    ensures full { (IsOver script.now (history_of script.now) → ⊥) → length (history_of script.now) ≡ ENTRY_LIMIT }
-    ensures writable { AreWritable (history_of script.now) }
+    ensures full { (IsOver script.now (history_of script.now) → ⊥) → ENTRY_LIMIT ≤ length (history_of script.now) }
 {
     let _pages = script.pages;
 }

@@ -1,0 +1,9 @@
+use Rattle.std.proofs.Common.{◌≡◌}
+use Rattle.cove_monitor.specs.Seats.{IsOf}
+use Rattle.cove_run.proofs.workers.steps_of.Given as goal
+
+abbrev pub invariant-loop : goal.invariant-loop
+invariant-loop g l = record {
+  of : IsOf g.B.Room.table l.fn.script l.hart;
+  same_hart : l.hart.held.hart ≡ l.fn.hart.held.hart;
+}
