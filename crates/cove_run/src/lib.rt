@@ -1,10 +1,10 @@
 #![tactic(auto)]
-//! The top call of the program. `tsm_alone` reads a script, runs it and prints its journal; its clauses `done` and
-//! `limit` are the headline: the printed journal is that of one legal history of the script, in which no page
-//! changes hands while a translation of a hart names it. Its other clauses say what each other status means.
-//! `printed_journals_are_read_back` says that the printed journal reads as that history. The crate stands on
-//! `cove_model`, which has the definitions, on `cove_script`, `cove_core` and `cove_journal`, which read the script,
-//! run it and write its lines, and on `cove_io`.
+//! The top calls of the program. `tsm_alone` reads a script, runs it by turns and prints its journal; `tsm_threads` runs
+//! each hart on a thread of its own. Their clauses `done` and `limit` are the headline: the printed journal is that of one
+//! legal history of the script, in which no page changes hands while a translation of a hart names it. Their other clauses
+//! say what each other status means. `printed_journals_are_read_back` says that a printed journal reads as its history.
+//! The crate stands on `cove_model`, which has the definitions, on `cove_script` and `cove_journal`, which read the script
+//! and write its lines, on `cove_core` and `cove_monitor`, which run it by turns and on threads, and on `cove_io`.
 
 mod endings;
 mod gates;
