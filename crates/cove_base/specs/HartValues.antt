@@ -1,5 +1,6 @@
 -- What one hart holds beside the shared words.
 use Rattle.std.specs.Prelude.{ℕ, ◌/◌, ◌==◌, Bool, false, List, [], Option, Some, None}
+use Rattle.std.specs.Option.{option_map}
 use Rattle.cove_base.specs.declared.events.Walked.{Walked}
 use Rattle.cove_base.specs.declared.events.Walked.TheVariants.{Found, Missing}
 use Rattle.cove_base.specs.declared.numbers.Page.{Page}
@@ -16,10 +17,11 @@ pub record HartRings : Type 0 where
   pub fetches : List (ℕ × Page)
   pub accesses : List (ℕ × Page)
 
--- the vCPU that a hart runs, and what the hart keeps of it between two of its entries
+-- the vCPU that a hart runs, the root of its TVM's tables, and what the hart keeps of the vCPU between two of its entries
 pub record Inside : Type 0 where
   pub tvm : ℕ
   pub cpu : ℕ
+  pub root : ℕ
   pub x : List ℕ
   pub pc : ℕ
   pub latched : Option ℕ
@@ -35,14 +37,25 @@ pub record HartValue : Type 0 where
   pub walked : Option Noted
   pub inside : Option Inside
 
--- what the board's rule speaks of: the hart's number, its rings and the walk that it has not used yet
+-- where the guest walks of a hart that is inside begin, and what they came by: the root of its TVM's tables, and table pages
+pub record Way : Type 0 where
+  pub root : ℕ
+  pub tables : List ℕ
+
+-- what the board's rule speaks of: the hart's number, its rings, the walk that it has not used yet, and the way of its guest
+-- walks, where it is inside
 pub record Holding : Type 0 where
   pub hart : ℕ
   pub rings : HartRings
   pub walked : Option Noted
+  pub way : Option Way
+
+-- the way of a hart that makes no walk
+abbrev pub way_of : Inside → Way
+way_of here = record { root = here.root; tables = [] }
 
 abbrev pub holding : HartValue → Holding
-holding held = record { hart = held.hart; rings = held.rings; walked = held.walked }
+holding held = record { hart = held.hart; rings = held.rings; walked = held.walked; way = option_map way_of held.inside }
 
 -- rings that name nothing
 abbrev pub no_rings : HartRings

@@ -72,7 +72,7 @@ module _ (script : ScriptValue) (m : MonitorPart) (p : HartPart) (place word : �
   on_board : p.hart < script.harts
   on_board = lives_on_board script m.history m.now p p.mark right.lives
 
-  marked_by : (rings : HartRings) → rings ≡ no_rings → Lives script m.history new_words (record { hart = p.hart; rings = rings; walked = p.walked }) true
+  marked_by : (rings : HartRings) → rings ≡ no_rings → Lives script m.history new_words (record (holding_of p) { rings = rings }) true
   marked_by rings empty = record { on_board = on_board; rings = empty; walk = unused }
 
   unmarked_by : answered_word script.pages p.hart ≢ place → (mark : Bool) → Lives script m.history m.now (holding_of p) mark → Lives script m.history new_words (holding_of p) mark
@@ -80,7 +80,7 @@ module _ (script : ScriptValue) (m : MonitorPart) (p : HartPart) (place word : �
   unmarked_by apart false lives =
       (stores_keep_rule script m.history m.old m.now no_tables p.hart place word monitor.monitored monitor.bounded lawful).2 (holding_of p) apart lives
 
-  lives_by : (answers : Bool) → eqb place (answered_word p.script.pages p.hart) ≡ answers → Lives script m.history new_words (record { hart = p.hart; rings = cond answers no_rings p.rings; walked = p.walked }) (cond answers true p.mark)
+  lives_by : (answers : Bool) → eqb place (answered_word p.script.pages p.hart) ≡ answers → Lives script m.history new_words (record (holding_of p) { rings = cond answers no_rings p.rings }) (cond answers true p.mark)
   lives_by true e = marked_by no_rings refl
   lives_by false e =
       let apart : place ≢ answered_word p.script.pages p.hart = eqb-false place (answered_word p.script.pages p.hart) e in
@@ -116,7 +116,7 @@ module _ (m : MonitorPart) (p : HartPart) (entry : Entry) (monitor : IsMonitor m
 
   pub count_monitor : IsMonitor m.script (counted_monitor entry m)
   count_monitor =
-      let kept = counts_keep_rule m.script m.history m.old m.now p.hart entry monitor.monitored monitor.bounded countable in
+      let kept = counts_keep_rule m.script m.history m.old m.now p.hart entry monitor.limits monitor.monitored monitor.bounded countable in
       record {
         script_is = refl;
         limits = monitor.limits;
@@ -136,7 +136,7 @@ module _ (m : MonitorPart) (p : HartPart) (entry : Entry) (monitor : IsMonitor m
   pub count_others : (q : HartPart) → q.hart ≢ p.hart → q.mark ≡ false → IsPart m.script m.history m.now q → IsPart m.script longer counted_words q
   count_others q ne unmarked other =
       let live = subst (Lives m.script m.history m.now (holding_of q)) unmarked other.lives in
-      let kept = counts_keep_rule m.script m.history m.old m.now p.hart entry monitor.monitored monitor.bounded countable in
+      let kept = counts_keep_rule m.script m.history m.old m.now p.hart entry monitor.limits monitor.monitored monitor.bounded countable in
       record {
         script_is = other.script_is;
         mine = other.mine ∙ sym (own_other m.history entry q.hart (λ same. ne (sym same ∙ countable.own)));

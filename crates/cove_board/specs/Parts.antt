@@ -1,7 +1,7 @@
 -- What the passes of a board know between them: the monitor's part, and a part of each hart.
 use Rattle.std.specs.Prelude.{ℕ, ◌+◌, ◌==◌, Bool, false, true, if◌then◌else◌, List, [], ◌∷◌, ◌++◌, Option, Some, None, replicate, slice_set}
 use Rattle.std.specs.Option.{unwrap_or}
-use Rattle.cove_base.specs.HartValues.{HartRings, Holding, no_rings, rings_after}
+use Rattle.cove_base.specs.HartValues.{HartRings, Holding, Way, no_rings, rings_after}
 use Rattle.cove_base.specs.HostWalks.{walked_to}
 use Rattle.cove_base.specs.Places.{all_words, answered_word, page_word}
 use Rattle.cove_base.specs.Scripts.{ScriptValue}
@@ -9,7 +9,8 @@ use Rattle.cove_base.specs.declared.events.Entry.{Entry}
 use Rattle.cove_base.specs.declared.numbers.Page.{Page}
 use Rattle.cove_base.specs.declared.walks.Noted.{Noted}
 use Rattle.cove_base.specs.declared.walks.Target.TheVariants.{Host}
-use Rattle.cove_model.specs.Fits.{rings_of}
+use Rattle.cove_model.specs.Fits.{rings_of, way_in}
+use Rattle.cove_model.specs.Histories.{after}
 use Rattle.cove_model.specs.LawfulCounts.{counted}
 use Rattle.cove_model.specs.Translations.{tlb}
 
@@ -24,7 +25,8 @@ pub record MonitorPart : Type 0 where
   pub dealt : ℕ
 
 -- a hart's part: its entries, the history that it saw last, its rings, whether its entry in flight has emptied them, a
--- walk that it has not used yet, and how many loads it made, the last one of this word at this place
+-- walk that it has not used yet, the way of its guest walks, and how many loads it made, the last one of this word at this
+-- place
 pub record HartPart : Type 0 where
   pub script : ScriptValue
   pub hart : ℕ
@@ -33,6 +35,7 @@ pub record HartPart : Type 0 where
   pub rings : HartRings
   pub mark : Bool
   pub walked : Option Noted
+  pub way : Option Way
   pub loads : ℕ
   pub place : ℕ
   pub word : ℕ
@@ -80,6 +83,7 @@ new_part script hart = record {
   rings = no_rings;
   mark = false;
   walked = None;
+  way = None;
   loads = 0;
   place = 0;
   word = 0;
@@ -98,7 +102,7 @@ hart_of part = unwrap_or part.hart (new_part no_script 0)
 
 -- what the board's rule speaks of in a hart's part
 abbrev pub holding_of : HartPart → Holding
-holding_of p = record { hart = p.hart; rings = p.rings; walked = p.walked }
+holding_of p = record { hart = p.hart; rings = p.rings; walked = p.walked; way = p.way }
 
 -- ---- what a step makes of them
 
@@ -138,6 +142,7 @@ counted_part entry m p = record p {
   rings = rings_of (tlb m.script (m.history ++ entry ∷ []) p.hart);
   mark = false;
   walked = None;
+  way = way_in (after m.script (m.history ++ entry ∷ [])) p.hart;
 }
 
 -- the parting of a pass: the hart has seen the history

@@ -38,13 +38,13 @@ kept_harts_use script words mon held p within kept fits named =
     fitting_harts_use script mon.history words held p within (kept_is_monitored script words mon kept) fits named
 
 pub steps_keep_live : StepsKeepLive
-steps_keep_live script before now old new held left other entry room kept made ne live =
+steps_keep_live script before now old new held left other entry within room kept made ne live =
     let stored = made.stores.0 in
     let countable = made.stores.2 in
     let part = kept_is_monitored script before old kept in
     let bounded = kept_is_bounded script before old kept (omega arith) in
     let lists = lists_keep_rule script old.history before before stored no_tables held.hart part bounded made.stores.1 in
-    let counts = counts_keep_rule script old.history before stored held.hart entry lists.0 lists.1 countable in
+    let counts = counts_keep_rule script old.history before stored held.hart entry within lists.0 lists.1 countable in
     let same : counted script.pages script.harts stored ≡ now =
     ap (λ n. set stored (count_word script.pages script.harts) (n + 1)) countable.count ∙ sym made.stores.3 in
     subst (λ h. IsLive script h now other) (sym made.grown)

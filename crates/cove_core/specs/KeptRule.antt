@@ -48,7 +48,7 @@ KeptHartsUse =
 abbrev pub StepsKeepLive : Type 0
 StepsKeepLive =
     (script : ScriptValue) (before now : List ℕ) (old new : Mon) (held left : HartValue) (other : Holding) (entry : Entry)
-    → length old.history < ENTRY_LIMIT → IsKept script before old
+    → IsTrue (is_within_limits script) → length old.history < ENTRY_LIMIT → IsKept script before old
     → IsMade script before now old new held left entry → other.hart ≢ held.hart
     → IsLive script old.history before other → IsLive script new.history now other
 

@@ -1,9 +1,9 @@
 -- Lawful stores and the store of the count keep the rule of every other hart; a hart that fits follows it.
-use Rattle.std.proofs.Common.{◌≡◌, ◌≢◌, ℕ, ◌+◌, ◌<◌, ◌≤◌, true, List, [], ◌∷◌, ◌++◌, Option, Some, None, length, get_or, set, refl, sym, ◌∙◌, ap, subst, inl, inr, ⊎_elim, arith, get_or-set_other, get_or-set_same, length-set}
+use Rattle.std.proofs.Common.{◌≡◌, ◌≢◌, ℕ, ◌+◌, ◌<◌, ◌≤◌, true, List, [], ◌∷◌, ◌++◌, Option, Some, None, length, get_or, set, option_map, refl, sym, ◌∙◌, ap, subst, inl, inr, ⊎_elim, arith, get_or-set_other, get_or-set_same, length-set}
 use Rattle.std.proofs.lemmas.Bool.{cases_lt}
 use Rattle.std.proofs.lemmas.List.{get_or_past, length_push}
 use Rattle.cove_base.proofs.ScriptLimits.{Limits, limits_of}
-use Rattle.cove_base.specs.HartValues.{HartValue, Holding, holding}
+use Rattle.cove_base.specs.HartValues.{HartValue, Holding, Inside, holding, way_of}
 use Rattle.cove_base.specs.PageWords.{host, IsHostWord}
 use Rattle.cove_base.specs.Places.{count_word, epoch_word, answered_word, tvm_word, all_words}
 use Rattle.cove_base.specs.Scripts.{ScriptValue}
@@ -23,16 +23,18 @@ use Rattle.cove_model.proofs.Members.{false-true}
 use Rattle.cove_model.proofs.Playing.{was_longer, was_now}
 use Rattle.cove_model.proofs.StoreLawProofs.{answers_apart, stores_keep_answers, stores_keep_fences, stores_keep_host, stores_keep_usable}
 use Rattle.cove_model.proofs.ToldProofs.{words_tell_host}
+use Rattle.cove_model.proofs.Ways.{way_apart}
 use Rattle.cove_model.proofs.Histories.{usable}
 use Rattle.cove_model.proofs.Holding.{held_since, holds_able}
 use Rattle.cove_model.specs.BoardRule.{AreBounded, CountsKeepRule, FittingHartsLive, FittingHartsUse, IsLive, IsMonitored, ListsKeepRule, LiveWalksWereRight, RestingHartsLive, StoresKeepRule, StoresKeepWalks, UnusedLives, WalkLives, resting}
 use Rattle.cove_model.specs.Cached.{IsReached, WasFound}
-use Rattle.cove_model.specs.Fits.{Fits, UnusedFits, WalkFits, rings_of, walked_rings}
+use Rattle.cove_model.specs.Fits.{Fits, InsideFits, UnusedFits, WalkFits, WayFits, rings_of, seat_of, walked_rings}
 use Rattle.cove_model.specs.Histories.{after}
 use Rattle.cove_model.specs.LawfulCounts.{IsCountable}
 use Rattle.cove_model.specs.LawfulStores.{Tables, IsLawful, Counts, Converts, Frees, Gives, TakesBack, Removes, Answers, Begins}
 use Rattle.cove_model.specs.Owners.{Owner, Host, Converting, Free, Given, has, may_use, page_at}
-use Rattle.cove_model.specs.States.{State}
+use Rattle.cove_model.specs.Pages.{root_of}
+use Rattle.cove_model.specs.States.{Seat, State}
 use Rattle.cove_model.specs.Steps.{Allows}
 use Rattle.cove_model.specs.StoreLaw.{IsUsableWord, MayUse}
 use Rattle.cove_model.specs.Translations.{tlb}
@@ -117,6 +119,7 @@ module _ (script : ScriptValue) (history : List Entry) (old now : List ℕ) (tab
         (was.0, stores_keep_usable script.pages script.harts tables hart other.hart old now place word p part.size bounded.within live.on_board ne was.0 lawful was.1);
     walk = store_unused other.hart other.walked live.walk;
     rings = live.rings;
+    way = live.way;
   }
 
 pub stores_keep_rule : StoresKeepRule
@@ -143,7 +146,7 @@ lists_keep_rule script history old now new tables hart part bounded leads =
 
 -- ---- the store of the count
 
-module _ (script : ScriptValue) (history : List Entry) (old now : List ℕ) (hart : ℕ) (entry : Entry) (part : IsMonitored script history old now) (bounded : AreBounded script.pages script.harts now) (countable : IsCountable script history hart now entry) where
+module _ (script : ScriptValue) (history : List Entry) (old now : List ℕ) (hart : ℕ) (entry : Entry) (limits : Limits script) (part : IsMonitored script history old now) (bounded : AreBounded script.pages script.harts now) (countable : IsCountable script history hart now entry) where
   abbrev one_more : ℕ
   one_more = get_or now (count_word script.pages script.harts) 0 + 1
 
@@ -231,11 +234,13 @@ module _ (script : ScriptValue) (history : List Entry) (old now : List ℕ) (har
             (was.0, count_usable other.hart p live.on_board was.0 was.1);
         walk = count_unused other.hart apart other.walked live.walk;
         rings = live.rings ∙ ap (λ t. walked_rings (rings_of t) other.walked) (sym (tlb_other script history entry other.hart apart));
+        way = way_apart script limits history entry part.legal other.hart live.on_board apart other.way live.way;
       }
 
 pub counts_keep_rule : CountsKeepRule
-counts_keep_rule script history old now hart entry part bounded countable =
-    (count_monitored script history old now hart entry part bounded countable, count_bounded script history old now hart entry part bounded countable, count_live script history old now hart entry part bounded countable)
+counts_keep_rule script history old now hart entry within part bounded countable =
+    let limits = limits_of script within in
+    (count_monitored script history old now hart entry limits part bounded countable, count_bounded script history old now hart entry limits part bounded countable, count_live script history old now hart entry limits part bounded countable)
 
 -- ---- the boundary
 
@@ -263,6 +268,24 @@ module _ (script : ScriptValue) (limits : Limits script) (history : List Entry) 
   found_there : (h p : ℕ) → h < script.harts → WasFound script history h (host_at p) → (p < script.pages) × MayUse script.pages words h p
   found_there h p on was = found_lives h (record { 0 = p }) on was
 
+  way_lives : (h : ℕ) (here : Option Inside) → InsideFits (after script history) h here → WayFits (after script history) h (option_map way_of here)
+  way_lives h None fits = fits
+  way_lives h (Some here) fits = record {
+    seat = seat_of here;
+    sits = fits.sits;
+    root = fits.root;
+    tables = λ p among. let none = among.1 in absurd (omega arith);
+  }
+
+  resting_way : (h : ℕ) (o : Option Seat) → (after script history).seats h ≡ o → WayFits (after script history) h (option_map (λ (seat : Seat). record { root = root_of (after script history).pages seat.tvm; tables = [] }) o)
+  resting_way h None sits = sits
+  resting_way h (Some seat) sits = record {
+    seat = seat;
+    sits = sits;
+    root = refl;
+    tables = λ p among. let none = among.1 in absurd (omega arith);
+  }
+
   live_of : (held : HartValue) → Fits script history held → IsLive script history words (holding held)
   live_of held fits = record {
     on_board = fits.on_board;
@@ -271,6 +294,7 @@ module _ (script : ScriptValue) (limits : Limits script) (history : List Entry) 
         (ring_cases script history held.hart p held.rings held.walked fits.walk fits.rings named);
     walk = unused_lives held.hart fits.on_board held.walked fits.walk;
     rings = fits.rings;
+    way = way_lives held.hart held.inside fits.inside;
   }
 
   resting_live : (h : ℕ) → h < script.harts → IsLive script history words (resting script history h)
@@ -279,6 +303,7 @@ module _ (script : ScriptValue) (limits : Limits script) (history : List Entry) 
     usable = λ p named. held_lives h p (ring_names (tlb script history h).pages p named);
     walk = tt;
     rings = refl;
+    way = resting_way h ((after script history).seats h) refl;
   }
 
 pub resting_harts_live : RestingHartsLive

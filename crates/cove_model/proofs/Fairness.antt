@@ -59,16 +59,8 @@ fair_outside script S h (Some line) event takes = fair_behind S h (first_behind 
 -- a vCPU fetches at its place
 planned_apart : (cpu : Cpu) (p : Plan) (addr : ℕ) → planned cpu p ≡ Fetches addr → ⊥
 planned_apart cpu (plans.Done rd value pc) addr e = cc
-planned_apart cpu (plans.Load a size signed rd) addr e = go (eqb (a % size) 0) e
-  where
-    go : (b : Bool) → cond b (Loads a size signed rd) (Traps 4) ≡ Fetches addr → ⊥
-    go true q = cc
-    go false q = cc
-planned_apart cpu (plans.Store a size value) addr e = go (eqb (a % size) 0) e
-  where
-    go : (b : Bool) → cond b (Stores a size value) (Traps 6) ≡ Fetches addr → ⊥
-    go true q = cc
-    go false q = cc
+planned_apart cpu (plans.Load a size signed rd) addr e = cc
+planned_apart cpu (plans.Store a size value) addr e = cc
 planned_apart cpu (plans.Csr csr mode source writes rd) addr e = go (cond (is_some cpu.binding) (csr_read cpu.file csr) None) e
   where
     go : (o : Option ℕ) → csr_deed cpu csr mode source writes rd o ≡ Fetches addr → ⊥

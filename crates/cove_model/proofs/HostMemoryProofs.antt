@@ -81,8 +81,8 @@ returned_move S T h old new words move none some = go move
     go (Stores place value u e) = never (word_stored place value old) e (still (word_stored place value) refl (λ tvm purpose. refl) old none)
     go (Fences f u e) = never (fenced h (without h (harts_below S.harts)) old) e (still (fenced h (without h (harts_below S.harts))) refl (λ tvm purpose. refl) old none)
     go (Responds u e) = never (fence_answered h old) e (still (fence_answered h) refl (λ tvm purpose. refl) old none)
-    go (Gives t purpose u was e) = never (Given t purpose) e refl
-    go (Returns t purpose u was e) = never Free e refl
+    go (Gives t purpose u root was e) = never (Given t purpose) e refl
+    go (Returns t purpose u left was e) = never Free e refl
 
 -- a page that comes to the host has zeros
 pub returned_zeros : (S : State) (hart : ℕ) (event : Event) (p : ℕ) (words : List ℕ) → host_memory S p ≡ None → host_memory (after_event S hart event) p ≡ Some words → words ≡ zeros

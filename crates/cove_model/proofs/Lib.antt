@@ -35,6 +35,7 @@ pub mod Frames
 pub mod HartsInside
 pub mod Histories
 pub mod Holding
+pub mod Ways
 pub mod Keeping
 pub mod KeepingCalls
 pub mod KeyedLemmas

@@ -83,8 +83,8 @@ sound_move S T h old new e (Reclaims u q) sound = subst (SoundIn T) (sym q) (sou
 sound_move S T h old new e (Stores place value u q) sound = subst (SoundIn T) (sym q) (sound_same S T (word_stored place value old) e u (sound_stored S place value old sound))
 sound_move S T h old new e (Fences all u q) sound = subst (SoundIn T) (sym q) (sound_fenced S T h old all u sound)
 sound_move S T h old new e (Responds u q) sound = subst (SoundIn T) (sym q) (sound_answered S T h old e u sound)
-sound_move S T h old new e (Gives t purpose u free q) sound = subst (SoundIn T) (sym q) tt
-sound_move S T h old new e (Returns t purpose u given q) sound = subst (SoundIn T) (sym q) tt
+sound_move S T h old new e (Gives t purpose u root free q) sound = subst (SoundIn T) (sym q) tt
+sound_move S T h old new e (Returns t purpose u left given q) sound = subst (SoundIn T) (sym q) tt
 
 -- ---- the harts that have not answered
 
@@ -101,8 +101,8 @@ board_move S T h old new e move within = subst (λ k. Within T.unanswered (harts
     go (Stores place value u q) = kept u
     go (Fences all u q) = subst (λ xs. Within xs (harts_below S.harts)) (sym u) (λ n w. has_with h n (harts_below S.harts) w)
     go (Responds u q) = subst (λ xs. Within xs (harts_below S.harts)) (sym u) (within_without h S.unanswered (harts_below S.harts) within)
-    go (Gives t purpose u free q) = kept u
-    go (Returns t purpose u given q) = kept u
+    go (Gives t purpose u root free q) = kept u
+    go (Returns t purpose u left given q) = kept u
 
 pub rising_move : (S T : State) (h : ℕ) (old new : Owner) → Move S T h old new → Rises S.unanswered → Rises T.unanswered
 rising_move S T h old new (Same u q) rises = subst Rises (sym u) rises
@@ -111,8 +111,8 @@ rising_move S T h old new (Reclaims u q) rises = subst Rises (sym u) rises
 rising_move S T h old new (Stores place value u q) rises = subst Rises (sym u) rises
 rising_move S T h old new (Fences all u q) rises = subst Rises (sym u) (rises_without h (harts_below S.harts) (rises_below S.harts))
 rising_move S T h old new (Responds u q) rises = subst Rises (sym u) (rises_without h S.unanswered rises)
-rising_move S T h old new (Gives t purpose u free q) rises = subst Rises (sym u) rises
-rising_move S T h old new (Returns t purpose u given q) rises = subst Rises (sym u) rises
+rising_move S T h old new (Gives t purpose u root free q) rises = subst Rises (sym u) rises
+rising_move S T h old new (Returns t purpose u left given q) rises = subst Rises (sym u) rises
 
 -- ---- steady pages: what is the host's stays so, and what is given stays given
 

@@ -60,8 +60,8 @@ use_move S T k h old new (Reclaims u q) sound lt ne e = ap (may_use h) q ∙ kee
 use_move S T k h old new (Stores place value u q) sound lt ne e = ap (may_use h) q ∙ use_stored h place value old e
 use_move S T k h old new (Fences all u q) sound lt ne e = ap (may_use h) q ∙ use_fenced S k h old sound lt ne e
 use_move S T k h old new (Responds u q) sound lt ne e = ap (may_use h) q ∙ use_answered S k h old sound ne e
-use_move S T k h old new (Gives t purpose u free q) sound lt ne e = false-true (sym (ap (may_use h) free) ∙ e)
-use_move S T k h old new (Returns t purpose u given q) sound lt ne e = false-true (sym (ap (may_use h) given) ∙ e)
+use_move S T k h old new (Gives t purpose u root free q) sound lt ne e = false-true (sym (ap (may_use h) free) ∙ e)
+use_move S T k h old new (Returns t purpose u left given q) sound lt ne e = false-true (sym (ap (may_use h) given) ∙ e)
 
 pub use_host : (h : ℕ) (o : Owner) → is_host o ≡ true → may_use h o ≡ true
 use_host h (Host words) e = refl

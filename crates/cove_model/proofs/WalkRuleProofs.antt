@@ -48,8 +48,9 @@ module _ (script : ScriptValue) (history : List Entry) (words : List ℕ) (held 
         usable = filled_usable host;
         walk = (refl, below, inl host);
         rings = ap (λ (r : HartRings). rings_with r (Host page) page) rings_are;
+        way = live.way;
       }
-  walked_by false says = record { on_board = live.on_board; usable = live.usable; walk = tt; rings = rings_are }
+  walked_by false says = record { on_board = live.on_board; usable = live.usable; walk = tt; rings = rings_are; way = live.way }
 
 pub walks_keep_rule : WalksKeepRule
 walks_keep_rule script history words held page below none live =

@@ -6,7 +6,7 @@ use Rattle.cove_model.specs.Types.{HostCall, Convert, GlobalFence, LocalFence, R
 use Rattle.cove_model.specs.HostCalls.{Outcome, Rule, rule}
 use Rattle.cove_model.specs.States.{State}
 
--- the calls that the monitor has yet
+-- the calls that the monitor has so far
 abbrev pub is_built : HostCall → Bool
 is_built (Convert base n) = true
 is_built GlobalFence = true

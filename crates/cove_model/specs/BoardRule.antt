@@ -1,5 +1,6 @@
 -- What holds of the shared words, the history and what each hart holds, also while a hart that is held stores. It is
--- said of host pages, and of the moment of each walk; the tables of TVMs have no part in it yet.
+-- said of host pages, of the moment of each walk, and of the root and table pages that a hart inside goes by; the words of
+-- tables have no part in it yet.
 use Rattle.std.specs.Prelude.{◌≡◌, ◌≢◌, ℕ, ◌<◌, ◌⊎◌, List, [], ◌∷◌, ◌++◌, IsSome, IsTrue, Option, Some, None, length, replicate, slice_index, slice_set}
 use Rattle.cove_base.specs.HartValues.{HartValue, Holding, holding, rings_after}
 use Rattle.cove_base.specs.HostWalks.{walked_to}
@@ -16,7 +17,7 @@ use Rattle.cove_base.specs.declared.walks.Noted.{Noted}
 use Rattle.cove_base.specs.declared.walks.Target.{Target}
 use Rattle.cove_base.specs.declared.walks.Target.TheVariants.{Host, Fetch, Access}
 use Rattle.cove_model.specs.Cached.{IsCached, WasFound}
-use Rattle.cove_model.specs.Fits.{Fits, WasLed, rings_of, walked_rings}
+use Rattle.cove_model.specs.Fits.{Fits, WasLed, WayFits, rings_of, walked_rings, way_in}
 use Rattle.cove_model.specs.Histories.{Legal, after}
 use Rattle.cove_model.specs.LawfulCounts.{IsCountable, counted}
 use Rattle.cove_model.specs.LawfulStores.{Tables, IsLawful, MakesLawful}
@@ -71,12 +72,13 @@ Names held p = IsSome (found p held.rings.hosts) ⊎ HasFound held.walked p
 
 -- The part of a hart of the board, by what it holds. Each page that its ring of host pages names is one of the board that
 -- the hart may use by the words: it is the host's, or in conversion, and the hart has answered no later epoch. Its rings
--- are its translations with the page of an unused walk.
+-- are its translations with the page of an unused walk, and the way of its guest walks is that of its TVM.
 pub record IsLive (script : ScriptValue) (history : List Entry) (words : List ℕ) (held : Holding) : Type 0 where
   pub on_board : held.hart < script.harts
   pub usable : (p : ℕ) → IsSome (found p held.rings.hosts) → (p < script.pages) × MayUse script.pages words held.hart p
   pub walk : UnusedLives script history words held.hart held.walked
   pub rings : held.rings ≡ walked_rings (rings_of (tlb script history held.hart)) held.walked
+  pub way : WayFits (after script history) held.hart held.way
 
 -- A lawful store of one hart keeps the rule of each hart, whatever that one does meanwhile: of the hart that stores too,
 -- unless it stores its answered number.
@@ -113,7 +115,7 @@ ListsKeepRule =
 abbrev pub CountsKeepRule : Type 0
 CountsKeepRule =
     (script : ScriptValue) (history : List Entry) (old now : List ℕ) (hart : ℕ) (entry : Entry)
-    → IsMonitored script history old now → AreBounded script.pages script.harts now
+    → IsTrue (is_within_limits script) → IsMonitored script history old now → AreBounded script.pages script.harts now
     → IsCountable script history hart now entry
     → let new = counted script.pages script.harts now in
     IsMonitored script (history ++ entry ∷ []) new new
@@ -136,10 +138,14 @@ WalksKeepRule =
     → page.0 < script.pages → held.walked ≡ None → IsLive script history words held
     → IsLive script history words (walked_holding held (Host page) (walked_to page (slice_index words (page_word page.0))))
 
--- what a hart holds that has just its translations
+-- what a hart holds that has just its translations, and makes no walk
 abbrev pub resting : ScriptValue → (history : List Entry) (hart : ℕ) → Holding
-resting script history hart =
-    record { hart = hart; rings = rings_of (tlb script history hart); walked = None }
+resting script history hart = record {
+  hart = hart;
+  rings = rings_of (tlb script history hart);
+  walked = None;
+  way = way_in (after script history) hart;
+}
 
 -- Where no store is pending, the rule holds of each hart that has just its translations: after the count of its entry,
 -- and at the opening.

@@ -188,10 +188,11 @@ has_begun (Begun waiting) = true
 abbrev pub is_unbinding : State → (t v : ℕ) → Bool
 is_unbinding S t v = option_map_or (λ b. has_begun b.unbinding) (binding_of S t v) false
 
--- the unbinding of the vCPU did not begin: so that it may run, or that it may begin
+-- a vCPU may run: its unbinding did not begin
 abbrev pub NotLeaving : State → (t v : ℕ) → Check
 NotLeaving S t v = plain (is_unbinding S t v) Denied
 
+-- the unbinding of the vCPU may begin: it did not yet
 abbrev pub UnbindingNotBegun : State → (t v : ℕ) → Check
 UnbindingNotBegun S t v = plain (is_unbinding S t v) AlreadyStarted
 

@@ -52,8 +52,8 @@ is_woken cpu = is_some cpu.binding && cpu.file.delivery && not (top cpu.file == 
 -- what it does by the plan of its instruction
 abbrev pub planned : Cpu → Plan → Deed
 planned cpu (plans.Done rd value pc) = Executes rd value pc cpu.file
-planned cpu (plans.Load addr size signed rd) = if addr % size == 0 then Loads addr size signed rd else Traps 4
-planned cpu (plans.Store addr size value) = if addr % size == 0 then Stores addr size value else Traps 6
+planned cpu (plans.Load addr size signed rd) = Loads addr size signed rd
+planned cpu (plans.Store addr size value) = Stores addr size value
 planned cpu (plans.Csr csr mode source writes rd) =
     csr_deed cpu csr mode source writes rd (if is_some cpu.binding then csr_read cpu.file csr else None)
 planned cpu plans.Ecall = Asks (asked_act cpu.x)

@@ -1,7 +1,8 @@
 -- What one hart holds fits a history. Neither the shared words nor any other hart is looked at.
-use Rattle.std.specs.Prelude.{◌≡◌, ◌<◌, ℕ, false, List, map, Option, Some, None}
+use Rattle.std.specs.Prelude.{◌≡◌, ◌<◌, ℕ, false, List, [], Contains, map, Option, Some, None}
+use Rattle.std.specs.Option.{option_map}
 use Rattle.cove_base.specs.HartPlaces.{IsNextPlace}
-use Rattle.cove_base.specs.HartValues.{HartRings, HartValue, Inside, rings_after}
+use Rattle.cove_base.specs.HartValues.{HartRings, HartValue, Inside, Way, rings_after}
 use Rattle.cove_base.specs.Scripts.{ScriptValue}
 use Rattle.cove_base.specs.declared.events.Entry.{Entry}
 use Rattle.cove_base.specs.declared.events.Walked.{Walked}
@@ -14,6 +15,8 @@ use Rattle.cove_model.specs.Aims.{aimed_at}
 use Rattle.cove_model.specs.Cached.{WasFound}
 use Rattle.cove_model.specs.Histories.{after}
 use Rattle.cove_model.specs.Offers.{cpu_of}
+use Rattle.cove_model.specs.Owners.{Given, AsTable, page_at}
+use Rattle.cove_model.specs.Pages.{root_of}
 use Rattle.cove_model.specs.States.{Seat, State, ended_by}
 use Rattle.cove_model.specs.Translations.{Tlb, holds_target, pair_of, tlb}
 
@@ -69,9 +72,11 @@ UnusedFits script history hart (Some noted) = WalkFits script history hart noted
 abbrev pub seat_of : Inside → Seat
 seat_of here = record { tvm = here.tvm; cpu = here.cpu }
 
--- a hart runs this vCPU, of which it knows the registers, the place, the latched word and the fuel
+-- a hart runs this vCPU, of which it knows the registers, the place, the latched word and the fuel, and the root of its
+-- TVM's tables
 pub record RunsThere (S : State) (hart : ℕ) (here : Inside) : Type 0 where
   pub sits : S.seats hart ≡ Some (seat_of here)
+  pub root : root_of S.pages here.tvm ≡ here.root
   pub x : (cpu_of S (seat_of here)).x ≡ here.x
   pub pc : (cpu_of S (seat_of here)).pc ≡ here.pc
   pub latched : (cpu_of S (seat_of here)).latched ≡ here.latched
@@ -80,6 +85,24 @@ pub record RunsThere (S : State) (hart : ℕ) (here : Inside) : Type 0 where
 abbrev pub InsideFits : State → (hart : ℕ) → Option Inside → Type 0
 InsideFits S hart None = S.seats hart ≡ None
 InsideFits S hart (Some here) = RunsThere S hart here
+
+-- ---- the way of guest walks
+
+-- a hart is inside a TVM: the way begins at the root of its tables, and came by pages that are given to it for tables
+pub record IsWay (S : State) (hart : ℕ) (way : Way) : Type 0 where
+  pub seat : Seat
+  pub sits : S.seats hart ≡ Some seat
+  pub root : root_of S.pages seat.tvm ≡ way.root
+  pub tables : (p : ℕ) → Contains way.tables p → page_at S.pages p ≡ Given seat.tvm AsTable
+
+-- a hart has a way where it is inside, and none outside
+abbrev pub WayFits : State → (hart : ℕ) → Option Way → Type 0
+WayFits S hart None = S.seats hart ≡ None
+WayFits S hart (Some way) = IsWay S hart way
+
+-- the way of a hart that makes no walk, by the state
+abbrev pub way_in : State → (hart : ℕ) → Option Way
+way_in S hart = option_map (λ seat. record { root = root_of S.pages seat.tvm; tables = [] }) (S.seats hart)
 
 -- ---- the whole
 

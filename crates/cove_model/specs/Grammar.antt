@@ -76,7 +76,7 @@ line_of word arguments =
 
 -- ---- the forms of a line
 
--- a line that says something, by its form, with the words reading_after its fixed words
+-- a line that says something, by its form, with the words after its fixed words
 pub data Content : Type 0 where
   BoardLine : (words : List Word) → Content
   KeyLine : (words : List Word) → Content
@@ -230,7 +230,7 @@ abbrev pub script_lines : (hart phase : ℕ) → Option Line → List ScriptLine
 script_lines hart phase None = []
 script_lines hart phase (Some line) = record { hart = record { 0 = hart }; phase = phase; line = line } ∷ []
 
--- what has been said reading_after a line; the body begins with the first line of it, or with the line `end`
+-- what has been said after a line; the body begins with the first line of it, or with the line `end`
 abbrev pub reading_after : Reading → Content → Reading
 reading_after R (BoardLine words) = let sizes : List ℕ = map value words in
     record R { has_board = true; script = record R.script { pages = slice_index sizes 0; harts = slice_index sizes 1; files = slice_index sizes 2 } }
@@ -248,7 +248,7 @@ reading_after R Unknown = R
 
 -- ---- a line, and the lines of a text
 
--- what has been read reading_after a line that says something, or the first kind of fault that applies
+-- what has been read after a line that says something, or the first kind of fault that applies
 unfoldable pub judged : Reading → Content → Result Reading Kind
 judged R content =
     if is_bad_header R content then Err BadHeader
@@ -274,7 +274,7 @@ abbrev pub then_read : {X : Type 0} → (number : ℕ) → Result Reading Kind �
 then_read number (Ok R) goes_on = goes_on R
 then_read number (Err kind) goes_on = Err (fault_at number kind)
 
--- the lines from a number on, to the last; NoEnd is at the line reading_after it
+-- the lines from a number on, to the last; NoEnd is at the line after it
 abbrev pub lines_read : Reading → (number : ℕ) → List (List ℕ) → Result ScriptValue ScriptFault
 lines_read R number [] = if R.has_end then Ok R.script else Err (fault_at number NoEnd)
 lines_read R number (line ∷ lines) = then_read number (line_read R line) (λ S. lines_read S (number + 1) lines)

@@ -37,11 +37,13 @@ shared_with tvm gpa n = tvm.shared ++ guests gpa n
 abbrev pub shared_without : Tvm → (gpa n : ℕ) → List ℕ
 shared_without tvm gpa n = filter (λ g. not (is_among gpa n g)) tvm.shared
 
--- how many maximal rows guest pages form: one begins at each page that comes after none of them
+-- how many rows guest pages form, where a row is as many as follow one another: one begins at each page whose predecessor
+-- is none of them
 abbrev pub row_count : List ℕ → ℕ
 row_count gs = length (filter (λ g. g == 0 || not (has (g - 1) gs)) gs)
 
--- the entry of the third level's table page, and of the second level's, on the way to a guest page
+-- the leading part of a guest page that one table page of the third level serves, 512 pages long, and the one that one of
+-- the second level serves, 512 times that
 abbrev pub third_of : (g : ℕ) → ℕ
 third_of g = g / 512
 

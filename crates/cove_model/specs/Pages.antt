@@ -1,7 +1,7 @@
 -- What calls on TVMs do to one page of the board.
-use Rattle.std.specs.Prelude.{ℕ, Bool, false, ◌==◌, ◌&&◌, if◌then◌else◌, List, ◌++◌, map, take, drop}
-use Rattle.std.specs.List.{enumerate_from}
-use Rattle.cove_model.specs.Owners.{Owner, Free, Given, Purpose, AsData}
+use Rattle.std.specs.Prelude.{ℕ, Bool, false, ◌==◌, ◌&&◌, if◌then◌else◌, List, ◌++◌, map, take, drop, find, length, unwrap_or}
+use Rattle.std.specs.List.{enumerate_from, range_with_len}
+use Rattle.cove_model.specs.Owners.{Owner, Free, Given, Purpose, AsRoot, AsData, page_at}
 
 -- the n pages from a first one on are changed, each by its place among them
 abbrev pub change_each : (how : ℕ → Owner → Owner) (first n : ℕ) (pages : List Owner) → List Owner
@@ -30,3 +30,12 @@ is_given t owner = false
 -- a page after a TVM was destroyed
 abbrev pub freed : (t : ℕ) → Owner → Owner
 freed t owner = if is_given t owner then Free else owner
+
+-- a page of a TVM's root
+abbrev pub is_root_of : (t : ℕ) → Owner → Bool
+is_root_of t (Given tvm AsRoot) = tvm == t
+is_root_of t owner = false
+
+-- the root of a TVM's tables: the first of the pages that are given to it as one
+abbrev pub root_of : (pages : List Owner) → (t : ℕ) → ℕ
+root_of pages t = unwrap_or (find (λ p. is_root_of t (page_at pages p)) (range_with_len 0 (length pages))) 0

@@ -90,7 +90,8 @@ abbrev pub rounds : (limit : ℕ) → ScriptValue → (n : ℕ) → Play → Pla
 rounds limit script zero play = play
 rounds limit script (suc n) play = rounds limit script n (round limit script play)
 
--- enough rounds for every script
+-- enough rounds for every script: a round that changes something makes an entry or notes a walk, and each walk is used by an
+-- entry; so two for each entry, and one for each hart's last walk, and one that changes nothing
 abbrev pub enough : (limit : ℕ) → ScriptValue → ℕ
 enough limit script = 2 * limit + script.harts + 1
 

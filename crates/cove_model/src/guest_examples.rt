@@ -14,7 +14,8 @@ ghost use Rattle.cove_model.specs.GuestCalls.{guest_rule};
 ghost use Rattle.cove_model.specs.HostCalls.{ForgetsGuests, rule};
 ghost use Rattle.cove_model.specs.Offers.{Single, is_found, may_succeed, offer, target_of};
 ghost use Rattle.cove_model.specs.States.{harts_inside, tvm_at};
-ghost use Rattle.cove_model.specs.Owners.{Free, is_free, page_at};
+ghost use Rattle.cove_model.specs.Owners.{Free, Given, AsRoot, AsState, is_free, page_at};
+ghost use Rattle.cove_model.specs.Pages.{root_of};
 ghost use Rattle.cove_model.specs.Translations.{forgets_by};
 ghost use Rattle.cove_model.specs.Tvms.{Blocked, Present};
 
@@ -48,6 +49,8 @@ pub fn worked_guests()
     ensures kicked { offer (board 2 [] [] []) (record running { kicked = 0 ∷ [] }) 0 ≡ Single (Exit Kicked) }
     ensures not_kicked { may_succeed running 1 (Fetch (record { 0 = 16 })) ≡ false }
     ensures leaves { forgets_by running 0 (Exit Wfi) ≡ ForgetsGuests }
+    ensures root_comes_first { root_of (Free ∷ Given 2 AsRoot ∷ Given 1 AsState ∷ Given 1 AsRoot ∷ Given 1 AsRoot ∷ []) 1 ≡ 3 }
+    ensures root_of_another { root_of (Free ∷ Given 2 AsRoot ∷ Given 1 AsState ∷ Given 1 AsRoot ∷ Given 1 AsRoot ∷ []) 2 ≡ 1 }
     ensures shares { (guest_rule running 0 1 0x14000 0x1000 (Share 0x14000 0x1000)).forgets ≡ ForgetsGuests }
 {}
 

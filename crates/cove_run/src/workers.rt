@@ -1,8 +1,8 @@
 //! The work of harts on threads, phase by phase.
 
-ghost use Rattle.std.specs.Prelude.{◌≡◌, ◌<◌, IsTrue, IsFalse, IfSome, None};
+ghost use Rattle.std.specs.Prelude.{◌≡◌, ◌<◌, IsTrue, IsFalse, None};
 ghost use Rattle.cove_monitor.specs.Closing.{AreSeats, IsNumber};
-ghost use Rattle.cove_monitor.specs.Seats.{IsOf, part_of};
+ghost use Rattle.cove_monitor.specs.Seats.{IsOf};
 ghost use Rattle.cove_run.specs.Working.{AreIdle, HasFull};
 
 use crate::gates::{Gate, Place};
@@ -103,7 +103,7 @@ fn work_on_phase<B: Room + Send + Sync, R: Threads + Wait + Sync, G: Gate + Sync
     );
 }
 
-// Makes what a hart can in a phase, and counts its walks' loads for contracts alone.
+// Makes what a hart can in a phase. The count of its loads begins here, and contracts alone see it.
 fn work<B: Room, R: Wait, G: Gate>(
     rt: &R,
     monitor: &Monitor<B>,
@@ -117,11 +117,11 @@ fn work<B: Room, R: Wait, G: Gate>(
     ensures hart { IsOf B.table script.now hart.new }
     ensures same_hart { hart.new.held.hart ≡ hart.old.held.hart }
 {
-    steps_of::<B, Brand, R, G>(rt, monitor, script, gate, hart, phase, Blank::new(1));
+    take_steps::<B, Brand, R, G>(rt, monitor, script, gate, hart, phase, Blank::new(1));
 }
 
-// Makes step after step of a hart, until it has nothing to do in the phase or an event was not made.
-fn steps_of<B: Room, L: Ledger, R: Wait, G: Gate>(
+// Takes step after step of a hart, until it has nothing to do in the phase or an event was not made.
+fn take_steps<B: Room, L: Ledger, R: Wait, G: Gate>(
     rt: &R,
     monitor: &Monitor<B>,
     script: &Script,
@@ -140,15 +140,15 @@ fn steps_of<B: Room, L: Ledger, R: Wait, G: Gate>(
 {
     let mut steps = Steps::<L>::new(blank);
     for _ in rt.forever() {
-        if !step(rt, monitor, script, gate, hart, phase, &mut steps) {
+        if !take_step(rt, monitor, script, gate, hart, phase, &mut steps) {
             return;
         }
     }
     unreachable!()
 }
 
-// Makes the walk or the event that a hart needs next. Says whether it did.
-fn step<B: Room, L: Ledger, R: Wait, G: Gate>(
+// Takes the next step of a hart: the walk or the event that it needs. Says whether there was one.
+fn take_step<B: Room, L: Ledger, R: Wait, G: Gate>(
     rt: &R,
     monitor: &Monitor<B>,
     script: &Script,

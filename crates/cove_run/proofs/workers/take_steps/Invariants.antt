@@ -1,6 +1,6 @@
 use Rattle.std.proofs.Common.{◌≡◌}
 use Rattle.cove_monitor.specs.Seats.{IsOf}
-use Rattle.cove_run.proofs.workers.steps_of.Given as goal
+use Rattle.cove_run.proofs.workers.take_steps.Given as goal
 
 abbrev pub invariant-loop : goal.invariant-loop
 invariant-loop g l = record {
