@@ -3,7 +3,7 @@
 ghost use Rattle.std.specs.Prelude.{◌≡◌, ◌<◌, IsTrue, IsFalse, None};
 ghost use Rattle.cove_monitor.specs.Closing.{AreSeats, IsNumber};
 ghost use Rattle.cove_monitor.specs.Seats.{IsOf};
-ghost use Rattle.cove_run.specs.Working.{AreIdle, HasFull};
+ghost use Rattle.cove_run.specs.Working.{AreAfter, AreIdle, ComesFirst, HasFull};
 
 use crate::gates::{Gate, Place};
 use cove_base::{Script, Steps};
@@ -57,7 +57,8 @@ fn is_any_full(harts: &[Hart]) -> bool
 // The least phase of the harts' next lines.
 fn least_phase<B: Room>(script: &Script, harts: &[Hart]) -> Option<u32>
     requires { AreSeats B.table script.now harts.now }
-    ensures { result ≡ None → AreIdle script.now harts.now }
+    ensures first { AreAfter script.now result harts.now }
+    ensures idle { result ≡ None → AreIdle script.now harts.now }
 {
     let mut least = None;
     for hart in harts {
@@ -68,8 +69,8 @@ fn least_phase<B: Room>(script: &Script, harts: &[Hart]) -> Option<u32>
 
 // The earlier of two phases, or the one that is there.
 fn earlier(a: Option<u32>, b: Option<u32>) -> Option<u32>
-    ensures first { result ≡ None → a ≡ None }
-    ensures second { result ≡ None → b ≡ None }
+    ensures first { ComesFirst result a }
+    ensures second { ComesFirst result b }
 {
     match (a, b) {
         (Some(a), Some(b)) => Some(a.min(b)),
