@@ -51,7 +51,15 @@ fn run<T: Threads + Wait + Sync>(rt: &HostRuntime, threads: &T) -> io::Result<u8
     let words = words.as_slice();
     let status = if says_run(words) {
         let mut closed = None;
-        tsm_threads(threads, alloc, words, &mut source, &mut sink, &Open, &mut closed)
+        tsm_threads(
+            threads,
+            alloc,
+            words,
+            &mut source,
+            &mut sink,
+            &Open,
+            &mut closed,
+        )
     } else {
         tsm_alone(alloc, words, &mut source, &mut sink)
     };
