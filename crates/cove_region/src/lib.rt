@@ -6,11 +6,13 @@
 
 mod areas;
 mod kinds;
+mod laws;
 mod regions;
 mod rows;
 
 pub use areas::Area;
 pub use kinds::AreaKind;
+pub use laws::standing_law;
 pub use regions::{RegionFault, Regions, regions_law};
 
 #[cfg(test)]
