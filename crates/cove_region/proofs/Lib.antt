@@ -4,4 +4,4 @@ mod CutLemmas
 mod KindLemmas
 mod JoinLemmas
 mod ListedLemmas
-mod StandingLemmas
+pub mod StandingLemmas
