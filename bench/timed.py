@@ -1,4 +1,5 @@
-"""A small program over copies of some of the crates, built in a folder of its own, for bench/hashing and bench/decoding."""
+"""A small program over copies of some of the crates, built in a folder of its own, for bench/hashing, bench/decoding and
+bench/map."""
 import os
 import shutil
 import subprocess
@@ -7,8 +8,8 @@ import sys
 TOP = os.path.dirname(os.path.dirname(os.path.abspath(__file__)))
 
 
-def build(folder, name, crates, uses, program):
-    """The path of the program NAME, built over the CRATES, which it uses as USES says."""
+def build(folder, name, crates, uses, program, proofs={}):
+    """The path of the program NAME, built over the CRATES, which it uses as USES says, with its PROOFS by their paths."""
     libraries = {}
     for line in open(os.path.join(TOP, "crates.txt")):
         crate, _, used = line.partition(":")
@@ -20,9 +21,10 @@ def build(folder, name, crates, uses, program):
                             ignore=shutil.ignore_patterns("must-fail", "out"))
         out.write(f"{name}: {uses}\n")
     home = os.path.join(folder, "crates", name)
-    os.makedirs(os.path.join(home, "src"))
-    with open(os.path.join(home, "src", "main.rt"), "w") as out:
-        out.write(program)
+    for path, text in {"src/main.rt": program, **proofs}.items():
+        os.makedirs(os.path.dirname(os.path.join(home, path)), exist_ok=True)
+        with open(os.path.join(home, path), "w") as out:
+            out.write(text)
     made = subprocess.run(["rt", "run", name], cwd=home, capture_output=True, text=True)
     built = os.path.join(home, "out", name)
     if not os.path.exists(built):

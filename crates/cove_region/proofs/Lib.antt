@@ -3,3 +3,5 @@ mod RowLemmas
 mod CutLemmas
 mod KindLemmas
 mod JoinLemmas
+mod ListedLemmas
+pub mod StandingLemmas

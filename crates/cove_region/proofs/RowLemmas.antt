@@ -18,7 +18,7 @@ use Rattle.cove_region.proofs.AreaLemmas.{All-push, All-remove, All-removed, all
 
 -- ---- how many rows there are
 
-bool_iff : (a b : Bool) → (a ≡ true → b ≡ true) → (b ≡ true → a ≡ true) → a ≡ b
+pub bool_iff : (a b : Bool) → (a ≡ true → b ≡ true) → (b ≡ true → a ≡ true) → a ≡ b
 bool_iff true b f g = sym (f refl)
 bool_iff false b f g = sym (false_from_ne_true b (λ h. both_ways false refl (g h)))
 

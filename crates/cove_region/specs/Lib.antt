@@ -1,2 +1,3 @@
 pub mod GuestMaps
 pub mod Rows
+pub mod Standing

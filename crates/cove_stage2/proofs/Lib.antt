@@ -1,7 +1,7 @@
 mod ClearLemmas
 mod EntryLemmas
-mod LackedLemmas
+pub mod LackedLemmas
 mod LeafLemmas
 mod LinkLemmas
 mod RestLemmas
-mod ZeroLemmas
+pub mod ZeroLemmas

@@ -1,5 +1,5 @@
-ghost use Rattle.std.specs.Prelude.{◌≡◌, ◌<◌, ◌^◌, IfOk};
-ghost use Rattle.cove_base.specs.Tables.{IsTree};
+ghost use Rattle.std.specs.Prelude.{◌≡◌, ◌<◌, ◌^◌, IfOk, false};
+ghost use Rattle.cove_base.specs.Tables.{IsTree, leaf_at, present};
 
 use crate::{Leaf, Pool, TableEntry, Tables, decode_entry, encode};
 use cove_base::{Gpn, NoMemory, Page, Plain, Steps, Walked, Words};
@@ -34,7 +34,8 @@ fn entries_are_words(rt: HostRuntime) -> Result<(), Fail> {
 
 // The words of a board of 16 pages after two pages were mapped, below a root at page 4 and with two pages for tables.
 fn two_mapped(alloc: Global) -> Result<Plain, NoMemory>
-    ensures { IfOk result (λ words. IsTree 16 4 words) }
+    ensures tree { IfOk result (λ words. IsTree 16 4 words) }
+    ensures second { IfOk result (λ words. leaf_at 16 4 words 17 ≡ present 11 false) }
 {
     let mut words = Plain::new(alloc, 8208)?;
     let mut pool = Pool::new(alloc, 2)?;
@@ -93,5 +94,53 @@ fn two_measured_pages_are_mapped(rt: HostRuntime) -> Result<(), Fail> {
     assert_eq!(rt; words.get(4624), 0x2001);
     assert_eq!(rt; words.get(4128), 0x28DF);
     assert_eq!(rt; words.get(4129), 0x2CDF);
+    Ok(())
+}
+
+// How many tables runs of guest pages lack: of two pages, across a boundary of 512, behind it, and across one of 2 ^ 18.
+fn needs(words: &mut Plain, tables: Tables) -> [u32; 4]
+    requires tree { IsTree tables.pages tables.root.0 words.old }
+    ensures { words.new ≡ words.old }
+{
+    let mapped = tables.need(words, Gpn(16), 2);
+    let across = tables.need(words, Gpn(510), 4);
+    let behind = tables.need(words, Gpn(512), 1024);
+    [mapped, across, behind, tables.need(words, Gpn(0x3_FFFF), 2)]
+}
+
+// The word of guest page 17 after it was blocked, after it was unblocked, and after it was blocked again and unmapped.
+fn leaf_words(words: &mut Plain, tables: Tables) -> [u64; 3]
+    requires pages { tables.pages ≡ 16 }
+    requires tree { IsTree tables.pages tables.root.0 words.old }
+    requires leaf { leaf_at tables.pages tables.root.0 words.old 17 ≡ present 11 false }
+    ensures { IsTree tables.pages tables.root.0 words.new }
+{
+    tables.block(words, Gpn(17), 5);
+    let blocked = words.get(4129);
+    tables.unblock(words, Gpn(17));
+    let unblocked = words.get(4129);
+    tables.block(words, Gpn(17), 6);
+    tables.unmap(words, Gpn(17));
+    [blocked, unblocked, words.get(4129)]
+}
+
+// A table is lacked once by all guest pages that it would serve; a leaf changes alone; and a cleared page is zeros.
+#[test]
+fn one_leaf_changes_and_a_page_is_cleared(rt: HostRuntime) -> Result<(), Fail> {
+    let mut words = two_mapped(rt.alloc())?;
+    let tables = Tables {
+        root: Page(4),
+        pages: 16,
+    };
+    assert_eq!(rt; needs(&mut words, tables), [0, 1, 2, 3]);
+    assert_eq!(rt; leaf_words(&mut words, tables), [0x1400_2DDE, 0x2CDF, 0]);
+    assert_eq!(rt; words.get(4128), 0x28DF);
+    words.set(4111, 7);
+    words.set(4623, 7);
+    tables.clear(&mut words, Page(8));
+    assert_eq!(rt; words.get(4111), 7);
+    assert_eq!(rt; words.get(4128), 0);
+    assert_eq!(rt; words.get(4623), 0);
+    assert_eq!(rt; words.get(4624), 0x2001);
     Ok(())
 }
