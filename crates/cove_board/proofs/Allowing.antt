@@ -10,7 +10,7 @@ use Rattle.cove_board.specs.Parts.{HartPart, MonitorPart, Part, both, counted_mo
 use Rattle.cove_board.specs.Plays.{Counts, Knows, Loads, Stores, Walks}
 use Rattle.cove_board.specs.Ruled.{Holds, IsMonitor, IsPart, IsRuled}
 use Rattle.cove_model.specs.LawfulCounts.{IsCountable, counted}
-use Rattle.cove_model.specs.LawfulStores.{IsLawful, no_tables}
+use Rattle.cove_model.specs.LawfulStores.{IsLawful}
 use lib.ListN.{get_elem?}
 use mathlib.Core.Option.{none, some}
 use prog.Atomic.{either}
@@ -96,7 +96,7 @@ knows_allowed script slots id place me carries same s ruled homes at small =
     )
 
 pub stores_allowed : (script : ScriptValue) (slots id place word : ℕ) (me : Me Entry Part) → me.0 ≡ both (monitor_of me.0) (hart_of me.0)
-    → IsLawful (monitor_of me.0).script.pages (monitor_of me.0).script.harts no_tables (hart_of me.0).hart (monitor_of me.0).old (monitor_of me.0).now place word
+    → IsLawful (monitor_of me.0).script.pages (monitor_of me.0).script.harts (hart_of me.0).hart (monitor_of me.0).old (monitor_of me.0).now place word
     → Allows (Holds script) slots id me place (λ n. word) (λ n. Stores (step slots place word 0 none) me word)
 stores_allowed script slots id place word me carries lawful s ruled homes at small =
     let m = monitor_of me.0 in
@@ -104,7 +104,7 @@ stores_allowed script slots id place word me carries lawful s ruled homes at sma
     let there : get_elem? s.views id ≡ some (both m p) = at ∙ ap some carries in
     let monitor = held_monitor script s ruled id place m p there in
     let right = held_part script s ruled id place m p there in
-    let lawful' = subst (λ (k : ScriptValue). IsLawful k.pages k.harts no_tables p.hart m.old m.now place word) monitor.script_is lawful in
+    let lawful' = subst (λ (k : ScriptValue). IsLawful k.pages k.harts p.hart m.old m.now place word) monitor.script_is lawful in
     let next = set s.views id (both (stored_monitor place word m) (stored_part place p)) in (
       both (stored_monitor place word m) (stored_part place p),
       keeps,

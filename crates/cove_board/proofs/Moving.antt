@@ -15,7 +15,7 @@ use Rattle.cove_model.proofs.WalkRuleProofs.{walks_keep_rule}
 use Rattle.cove_model.specs.BoardRule.{IsLive, IsMonitored, UnusedLives}
 use Rattle.cove_model.specs.Histories.{own}
 use Rattle.cove_model.specs.LawfulCounts.{IsCountable, counted}
-use Rattle.cove_model.specs.LawfulStores.{IsLawful, no_tables}
+use Rattle.cove_model.specs.LawfulStores.{IsLawful}
 
 -- ---- what each mark leaves
 
@@ -49,13 +49,13 @@ load_moves script H words place word p right = record {
 
 -- ---- a lawful store
 
-module _ (script : ScriptValue) (m : MonitorPart) (p : HartPart) (place word : ℕ) (monitor : IsMonitor script m) (right : IsPart script m.history m.now p) (lawful : IsLawful script.pages script.harts no_tables p.hart m.old m.now place word) where
+module _ (script : ScriptValue) (m : MonitorPart) (p : HartPart) (place word : ℕ) (monitor : IsMonitor script m) (right : IsPart script m.history m.now p) (lawful : IsLawful script.pages script.harts p.hart m.old m.now place word) where
   abbrev new_words : List ℕ
   new_words = set m.now place word
 
   pub store_monitor : IsMonitor script (stored_monitor place word m)
   store_monitor =
-      let kept = stores_keep_rule script m.history m.old m.now no_tables p.hart place word monitor.monitored monitor.bounded lawful in
+      let kept = stores_keep_rule script m.history m.old m.now p.hart place word monitor.monitored monitor.bounded lawful in
       record {
         script_is = monitor.script_is;
         limits = monitor.limits;
@@ -66,7 +66,7 @@ module _ (script : ScriptValue) (m : MonitorPart) (p : HartPart) (place word : �
 
   unused : UnusedLives script m.history new_words p.hart p.walked
   unused =
-      stores_keep_walks script m.history m.old m.now no_tables p.hart place word monitor.monitored monitor.bounded lawful p.hart p.walked
+      stores_keep_walks script m.history m.old m.now p.hart place word monitor.monitored monitor.bounded lawful p.hart p.walked
       (lives_unused script m.history m.now p p.mark right.lives)
 
   on_board : p.hart < script.harts
@@ -78,7 +78,7 @@ module _ (script : ScriptValue) (m : MonitorPart) (p : HartPart) (place word : �
   unmarked_by : answered_word script.pages p.hart ≢ place → (mark : Bool) → Lives script m.history m.now (holding_of p) mark → Lives script m.history new_words (holding_of p) mark
   unmarked_by apart true lives = marked_by p.rings lives.rings
   unmarked_by apart false lives =
-      (stores_keep_rule script m.history m.old m.now no_tables p.hart place word monitor.monitored monitor.bounded lawful).2 (holding_of p) apart lives
+      (stores_keep_rule script m.history m.old m.now p.hart place word monitor.monitored monitor.bounded lawful).2 (holding_of p) apart lives
 
   lives_by : (answers : Bool) → eqb place (answered_word p.script.pages p.hart) ≡ answers → Lives script m.history new_words (record (holding_of p) { rings = cond answers no_rings p.rings }) (cond answers true p.mark)
   lives_by true e = marked_by no_rings refl
@@ -97,7 +97,7 @@ module _ (script : ScriptValue) (m : MonitorPart) (p : HartPart) (place word : �
   pub store_others : (q : HartPart) → q.hart ≢ p.hart → q.mark ≡ false → IsPart script m.history m.now q → IsPart script m.history new_words q
   store_others q ne unmarked other =
       let live = subst (Lives script m.history m.now (holding_of q)) unmarked other.lives in
-      let kept = stores_keep_rule script m.history m.old m.now no_tables p.hart place word monitor.monitored monitor.bounded lawful in
+      let kept = stores_keep_rule script m.history m.old m.now p.hart place word monitor.monitored monitor.bounded lawful in
       record {
         script_is = other.script_is;
         mine = other.mine;

@@ -10,7 +10,7 @@ use Rattle.cove_board.specs.Parts.{HartPart, MonitorPart, Part, both, hart_alone
 use Rattle.cove_model.specs.Fits.{rings_of, walked_rings}
 use Rattle.cove_model.specs.Histories.{own}
 use Rattle.cove_model.specs.LawfulCounts.{IsCountable}
-use Rattle.cove_model.specs.LawfulStores.{IsLawful, no_tables}
+use Rattle.cove_model.specs.LawfulStores.{IsLawful}
 use Rattle.cove_model.specs.Translations.{tlb}
 
 -- a board: its table, and the script that it was made for
@@ -77,7 +77,7 @@ guard_of held = guard_by held.table (monitor_of held.part) (hart_of held.part)
 abbrev pub AllowsLawfulStores : Option Guard → (words : List ℕ) (place word : ℕ) → Type 0
 AllowsLawfulStores None words place word = ⊥
 AllowsLawfulStores (Some guard) words place word =
-    IsLawful guard.script.pages guard.script.harts no_tables guard.hart guard.old words place word
+    IsLawful guard.script.pages guard.script.harts guard.hart guard.old words place word
 
 -- and exactly the entries that may be counted
 abbrev pub AllowsEntries : Option Guard → (words : List ℕ) (place : ℕ) → Entry → Type 0

@@ -6,7 +6,7 @@ ghost use Rattle.cove_board.specs.Parts.{both, counted_monitor, counted_part, ha
 ghost use Rattle.cove_board.specs.Passes.{IsHeld};
 ghost use Rattle.cove_board.specs.Plays.{loaded};
 ghost use Rattle.cove_model.specs.LawfulCounts.{IsCountable};
-ghost use Rattle.cove_model.specs.LawfulStores.{IsLawful, no_tables};
+ghost use Rattle.cove_model.specs.LawfulStores.{IsLawful};
 
 use crate::boards::Board;
 use crate::passes::Pass;
@@ -67,7 +67,7 @@ impl Board {
         requires table { seat.old.table_id ≡ self.now.table }
         requires carries { seat.old.me.0 ≡ both (monitor_of seat.old.me.0) (hart_of seat.old.me.0) }
         requires place { place < all_words self.now.script.pages self.now.script.harts }
-        requires lawful { IsLawful (monitor_of seat.old.me.0).script.pages (monitor_of seat.old.me.0).script.harts no_tables
+        requires lawful { IsLawful (monitor_of seat.old.me.0).script.pages (monitor_of seat.old.me.0).script.harts
             (hart_of seat.old.me.0).hart (monitor_of seat.old.me.0).old (monitor_of seat.old.me.0).now place word }
         ensures table { seat.new.table_id ≡ seat.old.table_id }
         ensures parts { seat.new.me

@@ -11,7 +11,7 @@ use Rattle.cove_core.specs.Called.{Called}
 use Rattle.cove_core.specs.Replies.{accepted, refused_with, succeeded}
 use Rattle.cove_model.specs.Answers.{effect, is_built, refusal, value_of}
 use Rattle.cove_model.specs.HostCalls.{rule}
-use Rattle.cove_model.specs.LawfulStores.{IsLawful, no_tables}
+use Rattle.cove_model.specs.LawfulStores.{IsLawful}
 use Rattle.cove_model.specs.Refusals.{first_failing, plain}
 use Rattle.cove_model.specs.Sound.{IsSound}
 use Rattle.cove_model.specs.States.{State}
@@ -61,7 +61,7 @@ pub record Accepts (pages harts hart : ℕ) (call : HostCall) (new : List ℕ) (
   pub memory : FramesStand now (effect S hart call)
 
 -- a call that every state accepts makes its stores
-pub accepts : (pages harts hart : ℕ) (call : HostCall) (words : List ℕ) (frames now : List (List ℕ)) (ss : List (ℕ × ℕ)) → AllAllowed (IsLawful pages harts no_tables hart words) words ss → epoch_in pages (stored words ss) ≤ epoch_in pages words + 1 → ((t : ℕ) → number_in pages harts (stored words ss) t ≡ number_in pages harts words t) → get_or (stored words ss) (count_word pages harts) 0 ≡ get_or words (count_word pages harts) 0 → ((S : State) → IsSound S → Stand pages harts words S → FramesStand frames S → Accepts pages harts hart call (stored words ss) now S) → Called pages harts hart call words (stored words ss) frames now accepted
+pub accepts : (pages harts hart : ℕ) (call : HostCall) (words : List ℕ) (frames now : List (List ℕ)) (ss : List (ℕ × ℕ)) → AllAllowed (IsLawful pages harts hart words) words ss → epoch_in pages (stored words ss) ≤ epoch_in pages words + 1 → ((t : ℕ) → number_in pages harts (stored words ss) t ≡ number_in pages harts words t) → get_or (stored words ss) (count_word pages harts) 0 ≡ get_or words (count_word pages harts) 0 → ((S : State) → IsSound S → Stand pages harts words S → FramesStand frames S → Accepts pages harts hart call (stored words ss) now S) → Called pages harts hart call words (stored words ss) frames now accepted
 accepts pages harts hart call words frames now ss lawful epoch numbers count each = record {
   serves = λ S sound stand memory. let right = each S sound stand memory in rw right.none (rw right.value refl, right.stands, right.memory);
   lawful = (ss, lawful, refl);

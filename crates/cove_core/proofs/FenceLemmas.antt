@@ -14,7 +14,6 @@ use Rattle.cove_model.proofs.FrameProofs.{global_fence_keeps_frames, local_fence
 use Rattle.cove_model.proofs.LawfulProofs.{global_fence_is_lawful, local_fence_is_lawful}
 use Rattle.cove_model.proofs.ToldProofs.{words_tell_answered, words_tell_lowest}
 use Rattle.cove_model.proofs.WordProofs.{global_fence_stands, local_fence_stands}
-use Rattle.cove_model.specs.LawfulStores.{no_tables}
 use Rattle.cove_model.specs.WordLaws.{AllAnswer, IsFloor, global_fence_stores, local_fence_stores}
 
 abbrev fence_words : (first harts : ℕ) → FenceWords
@@ -42,7 +41,7 @@ module _ (pages harts hart : ℕ) (words : List ℕ) (frames : List (List ℕ)) 
   global_fence_accepted all =
       let answers : AllAnswer pages harts words = rw places_are at all in
       rw places_are (accepts pages harts hart GlobalFence words frames frames (global_fence_stores pages words hart)
-      (global_fence_is_lawful pages harts no_tables words hart ready.on_board (omega (arith, long)) ready.room answers)
+      (global_fence_is_lawful pages harts words hart ready.on_board (omega (arith, long)) ready.room answers)
       (omega (arith, long, get_or-set_at {X = ℕ}, get_or-set_other {A = ℕ}))
       (λ t. omega (arith, ready.on_board, get_or-set_other {A = ℕ}))
       (omega (arith, long, get_or-set_other {A = ℕ}))
@@ -56,7 +55,7 @@ module _ (pages harts hart : ℕ) (words : List ℕ) (frames : List (List ℕ)) 
   pub local_fence_accepted : Called pages harts hart LocalFence words (stored words (answer_stores places words hart)) frames frames accepted
   local_fence_accepted =
       rw places_are (accepts pages harts hart LocalFence words frames frames (local_fence_stores pages words hart)
-      (local_fence_is_lawful pages harts no_tables words hart ready.on_board)
+      (local_fence_is_lawful pages harts words hart ready.on_board)
       (omega (arith, get_or-set_other {A = ℕ}))
       (λ t. omega (arith, ready.on_board, get_or-set_other {A = ℕ}))
       (omega (arith, get_or-set_other {A = ℕ}))

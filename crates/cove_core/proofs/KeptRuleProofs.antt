@@ -5,7 +5,6 @@ use Rattle.cove_base.specs.Places.{count_word}
 use Rattle.cove_model.proofs.BoardRuleProofs.{counts_keep_rule, fitting_harts_live, fitting_harts_use, lists_keep_rule}
 use Rattle.cove_model.specs.BoardRule.{IsLive}
 use Rattle.cove_model.specs.LawfulCounts.{counted}
-use Rattle.cove_model.specs.LawfulStores.{no_tables}
 use Rattle.cove_model.specs.WordsStand.{number_in}
 
 pub kept_is_monitored : KeptIsMonitored
@@ -43,7 +42,7 @@ steps_keep_live script before now old new held left other entry within room kept
     let countable = made.stores.2 in
     let part = kept_is_monitored script before old kept in
     let bounded = kept_is_bounded script before old kept (omega arith) in
-    let lists = lists_keep_rule script old.history before before stored no_tables held.hart part bounded made.stores.1 in
+    let lists = lists_keep_rule script old.history before before stored held.hart part bounded made.stores.1 in
     let counts = counts_keep_rule script old.history before stored held.hart entry within lists.0 lists.1 countable in
     let same : counted script.pages script.harts stored ≡ now =
     ap (λ n. set stored (count_word script.pages script.harts) (n + 1)) countable.count ∙ sym made.stores.3 in

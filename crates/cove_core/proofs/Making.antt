@@ -37,7 +37,7 @@ use Rattle.cove_model.proofs.Unbuilt.{done_outside, empty_after, maps_zero, rene
 use Rattle.cove_model.proofs.Fitting.{fits_other}
 use Rattle.cove_model.specs.Fits.{Fits, rings_of}
 use Rattle.cove_model.specs.Histories.{Legal, after}
-use Rattle.cove_model.specs.LawfulStores.{no_tables, AllowsLawful, IsLawful, MakesLawful}
+use Rattle.cove_model.specs.LawfulStores.{AllowsLawful, IsLawful, MakesLawful}
 use Rattle.cove_model.specs.Offers.{first_behind, line_offer, offer}
 use Rattle.cove_model.specs.Played.{entry_by}
 use Rattle.cove_model.specs.States.{page_of, word_place}
@@ -55,7 +55,7 @@ pub record Parts (script : ScriptValue) (words : List ℕ) (mon : Mon) (held : H
   pub count : get_or now (count_word script.pages script.harts) 0 ≡ length mon.history
   pub fences : FencesWithin script.pages script.harts now (length mon.history + 1)
   pub told : IsTold words held.rings (host_touched event)
-  pub lawful : MakesLawful script.pages script.harts no_tables held.hart words words now
+  pub lawful : MakesLawful script.pages script.harts held.hart words words now
 
 module _ (script : ScriptValue) (within : IsTrue (is_within_limits script)) (words : List ℕ) (mon : Mon) (kept : IsKept script words mon) (held : HartValue) (fits : Fits script mon.history held) (l : ScriptLine) (at : slice_get script.lines held.place ≡ Some l) (next : next_line script held.hart held.ended ≡ Some l) where
   frame_count : length mon.ground.memory ≡ script.pages
@@ -220,9 +220,9 @@ pub done_on : (pages pages' harts harts' : ℕ) → pages' ≡ pages → harts' 
 done_on pages pages' harts harts' p h old new before now held rings event line did =
     subst (λ n. IsDone pages n old new before now held rings event line) h (subst (λ n. IsDone n harts' old new before now held rings event line) p did)
 
-pub allows_on : (allows : List ℕ → ℕ → ℕ → Type 0) (pages pages' harts harts' hart : ℕ) → pages' ≡ pages → harts' ≡ harts → (old : List ℕ) → AllowsLawful allows pages harts no_tables hart old → AllowsLawful allows pages' harts' no_tables hart old
+pub allows_on : (allows : List ℕ → ℕ → ℕ → Type 0) (pages pages' harts harts' hart : ℕ) → pages' ≡ pages → harts' ≡ harts → (old : List ℕ) → AllowsLawful allows pages harts hart old → AllowsLawful allows pages' harts' hart old
 allows_on allows pages pages' harts harts' hart p h old all = λ words place word lawful.
-    all words place word (subst (λ n. IsLawful pages n no_tables hart old words place word) h (subst (λ n. IsLawful n harts' no_tables hart old words place word) p lawful))
+    all words place word (subst (λ n. IsLawful pages n hart old words place word) h (subst (λ n. IsLawful n harts' hart old words place word) p lawful))
 
 -- what no hart is behind, as the code finds it
 pub none_behind : (script : ScriptValue) (H : List Entry) (l : ScriptLine) (found : Option HartId) → found ≡ None → IfNone found (first_behind script (after script H) l.phase ≡ None) → first_behind script (after script H) l.phase ≡ None

@@ -23,7 +23,7 @@ use Rattle.cove_model.proofs.Runs.{every_at, every_from}
 use Rattle.cove_model.proofs.ToldProofs.{words_tell_host, words_tell_free, words_tell_shared}
 use Rattle.cove_model.proofs.WordProofs.{convert_stands, reclaim_stands}
 use Rattle.cove_model.specs.Answers.{refusal}
-use Rattle.cove_model.specs.LawfulStores.{IsLawful, no_tables}
+use Rattle.cove_model.specs.LawfulStores.{IsLawful}
 use Rattle.cove_model.specs.Owners.{Owner, has, is_host, is_free, every, page_at}
 use Rattle.cove_model.specs.Refusals.{Check, first_failing, Count, Aligned}
 use Rattle.cove_model.specs.Checks.{Inside}
@@ -113,7 +113,7 @@ module _ (pages harts hart : ℕ) (words : List ℕ) (frames : List (List ℕ)) 
         (rw (found.first, found.size) at tells)
 
     -- the pages are filled with a word
-    filled : (call : HostCall) (word : ℕ) (now : List (List ℕ)) → AllAllowed (IsLawful pages harts no_tables hart words) words (fills range.first.0 range.count word) → ((S : State) → IsSound S → Stand pages harts words S → FramesStand frames S → Accepts pages harts hart call (stored words (fills (base / 4096) n word)) now S) → Called pages harts hart call words (stored words (fills range.first.0 range.count word)) frames now accepted
+    filled : (call : HostCall) (word : ℕ) (now : List (List ℕ)) → AllAllowed (IsLawful pages harts hart words) words (fills range.first.0 range.count word) → ((S : State) → IsSound S → Stand pages harts words S → FramesStand frames S → Accepts pages harts hart call (stored words (fills (base / 4096) n word)) now S) → Called pages harts hart call words (stored words (fills range.first.0 range.count word)) frames now accepted
     filled call word now lawful each =
         let kept : (place : ℕ) → pages ≤ place → get_or (stored words (fills (base / 4096) n word)) place 0 ≡ get_or words place 0 =
         λ place past. get_or-fills_other words (base / 4096) n word place (inr (omega (arith, found))) in
@@ -146,9 +146,9 @@ module _ (pages harts hart : ℕ) (words : List ℕ) (frames : List (List ℕ)) 
             ))
 
         module _ (none : SomePage IsMappedWord words range.first.0 range.count → ⊥) where
-          pub convert_lawful : AllAllowed (IsLawful pages harts no_tables hart words) words (fills range.first.0 range.count (converting (epoch_in pages words)))
+          pub convert_lawful : AllAllowed (IsLawful pages harts hart words) words (fills range.first.0 range.count (converting (epoch_in pages words)))
           convert_lawful =
-              rw (found.first, found.size) (convert_is_lawful pages harts no_tables words hart base n found.fits (λ p low high.
+              rw (found.first, found.size) (convert_is_lawful pages harts words hart base n found.fits (λ p low high.
               unmapped (get_or words p 0) (tells.0 passes p (omega (arith, found)) (omega (arith, found)))
               (λ mapped. none (p, omega (arith, found), omega (arith, found), mapped))))
 
@@ -181,9 +181,9 @@ module _ (pages harts hart : ℕ) (words : List ℕ) (frames : List (List ℕ)) 
           rw (found.count, found.aligned, stand.stands.owners.page_count, found.inside, free_told S stand, fails))
 
       module _ (passes : all ≡ true) where
-        pub reclaim_lawful : AllAllowed (IsLawful pages harts no_tables hart words) words (fills range.first.0 range.count (host 0))
+        pub reclaim_lawful : AllAllowed (IsLawful pages harts hart words) words (fills range.first.0 range.count (host 0))
         reclaim_lawful =
-            rw (found.first, found.size) (reclaim_is_lawful pages harts no_tables words hart base n found.fits (λ p low high.
+            rw (found.first, found.size) (reclaim_is_lawful pages harts words hart base n found.fits (λ p low high.
             free_by_floor harts (answered_in pages words) floor (get_or words p 0) least.0 (tells.0 passes p (omega (arith, found)) (omega (arith, found)))))
 
         pub reclaim_accepted : Called pages harts hart (Reclaim base n) words (stored words (fills range.first.0 range.count (host 0))) frames (zeroed frames range.first.0 range.count) accepted

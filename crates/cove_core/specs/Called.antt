@@ -6,7 +6,7 @@ use Rattle.cove_base.specs.declared.calls.HostCall.{HostCall}
 use Rattle.cove_base.specs.declared.limits.TheConstants.{PAGE_LIMIT, HART_LIMIT, ENTRY_LIMIT}
 use Rattle.cove_base.specs.declared.statuses.Reply.{Reply}
 use Rattle.cove_model.specs.Answers.{reply_to, state_after}
-use Rattle.cove_model.specs.LawfulStores.{MakesLawful, no_tables}
+use Rattle.cove_model.specs.LawfulStores.{MakesLawful}
 use Rattle.cove_model.specs.Sound.{IsSound}
 use Rattle.cove_model.specs.States.{State}
 use Rattle.cove_base.specs.Statuses.{is_success}
@@ -20,7 +20,7 @@ pub record Called (pages harts hart : ℕ) (call : HostCall) (old new : List ℕ
   pub serves :
       (S : State) → IsSound S → Stand pages harts old S → FramesStand before S
       → (reply ≡ reply_to S hart call) × Stand pages harts new (state_after S hart call) × FramesStand now (state_after S hart call)
-  pub lawful : MakesLawful pages harts no_tables hart old old new
+  pub lawful : MakesLawful pages harts hart old old new
   pub refused : is_success reply.status ≡ false → (new ≡ old) × (now ≡ before)
   pub fences : (most : ℕ) → FencesWithin pages harts old most → FencesWithin pages harts new (most + 1)
   pub count : slice_index new (count_word pages harts) ≡ slice_index old (count_word pages harts)

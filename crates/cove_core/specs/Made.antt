@@ -16,7 +16,7 @@ use Rattle.cove_model.specs.Cached.{IsCached, IsReached}
 use Rattle.cove_model.specs.Fits.{Fits, rings_of}
 use Rattle.cove_model.specs.Histories.{Legal, after}
 use Rattle.cove_model.specs.LawfulCounts.{IsCountable}
-use Rattle.cove_model.specs.LawfulStores.{MakesLawful, no_tables}
+use Rattle.cove_model.specs.LawfulStores.{MakesLawful}
 use Rattle.cove_model.specs.Owners.{holder, page_at}
 use Rattle.cove_model.specs.States.{ended_by}
 use Rattle.cove_model.specs.Steps.{Allows, IsStep, done}
@@ -66,7 +66,7 @@ IsClear script before entry held =
 -- The stores of an entry of a hart: lawful ones, and then that of the count, on words on which it may be counted.
 abbrev pub StoresAndCounts : ScriptValue → (history : List Entry) (hart : ℕ) → Entry → (before now : List ℕ) → Type 0
 StoresAndCounts script history hart entry before now =
-    (stored : List ℕ) × MakesLawful script.pages script.harts no_tables hart before before stored
+    (stored : List ℕ) × MakesLawful script.pages script.harts hart before before stored
     × IsCountable script history hart stored entry
     × (now ≡ slice_set stored (count_word script.pages script.harts) (length history + 1))
 

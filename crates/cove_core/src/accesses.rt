@@ -8,7 +8,7 @@ ghost use Rattle.cove_core.specs.Called.{IsReady};
 ghost use Rattle.cove_core.specs.Reached.{CanDo, HasWalked, IsAnswered, IsDone, IsLoaded, IsReachable, IsStored, ComesTo, frames_by, load_event, rings_forgotten, store_event};
 ghost use Rattle.cove_hart.specs.HartStates.{hart_value};
 ghost use Rattle.cove_mem.specs.Frames.{frame, with_word};
-ghost use Rattle.cove_model.specs.LawfulStores.{AllowsLawful, no_tables};
+ghost use Rattle.cove_model.specs.LawfulStores.{AllowsLawful};
 ghost use Rattle.cove_model.specs.States.{page_of, word_place};
 ghost use Rattle.cove_base.specs.Statuses.{is_success};
 
@@ -36,7 +36,7 @@ pub enum Reach {
 /// Does for a hart what a line says.
 pub fn perform<W: Words>(w: &mut W, g: &mut Ground, hart: &mut HartState, line: Line) -> Event
     requires can { CanDo g.old.pages g.old.harts (W.words w.old) g.old.memory (hart_value hart.old) line }
-    requires allowed { AllowsLawful (W.allows (W.guard w.old)) g.old.pages g.old.harts no_tables hart.old.hart.0 (W.words w.old) }
+    requires allowed { AllowsLawful (W.allows (W.guard w.old)) g.old.pages g.old.harts hart.old.hart.0 (W.words w.old) }
     ensures done { IsDone g.old.pages g.old.harts (W.words w.old) (W.words w.new) g.old.memory g.new.memory
         (hart_value hart.old) hart.new.rings result line }
     ensures hart { hart.new ≡ record hart.old { rings = hart.new.rings } }
@@ -85,7 +85,7 @@ pub fn store<W: Words>(
 /// Answers a call for a hart.
 pub fn answer<W: Words>(w: &mut W, g: &mut Ground, hart: &mut HartState, c: HostCall) -> Event
     requires ready { IsReady g.old.pages g.old.harts hart.old.hart.0 (W.words w.old) g.old.memory }
-    requires allowed { AllowsLawful (W.allows (W.guard w.old)) g.old.pages g.old.harts no_tables hart.old.hart.0 (W.words w.old) }
+    requires allowed { AllowsLawful (W.allows (W.guard w.old)) g.old.pages g.old.harts hart.old.hart.0 (W.words w.old) }
     ensures answered { IsAnswered g.old.pages g.old.harts hart.old.hart.0 c
         (W.words w.old) (W.words w.new) g.old.memory g.new.memory hart.old.rings hart.new.rings result }
     ensures hart { hart.new ≡ record hart.old { rings = hart.new.rings } }

@@ -7,7 +7,7 @@ ghost use Rattle.cove_base.specs.Stores.{AllAllowed, fills, stored};
 ghost use Rattle.cove_core.specs.Called.{Called, IsReady};
 ghost use Rattle.cove_core.specs.Replies.{accepted, refused_with, succeeded, fault_status};
 ghost use Rattle.cove_core.specs.Zeros.{AreZeros};
-ghost use Rattle.cove_model.specs.LawfulStores.{AllowsLawful, no_tables};
+ghost use Rattle.cove_model.specs.LawfulStores.{AllowsLawful};
 ghost use Rattle.cove_model.specs.WordLaws.{zeroed};
 
 use crate::ground::Ground;
@@ -21,7 +21,7 @@ use cove_owner::{PageState, all_free, all_host, any_mapped, set_all};
 /// Answers a call of a hart's. A call that is not built is not supported.
 pub fn call<W: Words>(w: &mut W, g: &mut Ground, h: HartId, c: HostCall) -> Reply
     requires ready { IsReady g.old.pages g.old.harts h.0 (W.words w.old) g.old.memory }
-    requires allowed { AllowsLawful (W.allows (W.guard w.old)) g.old.pages g.old.harts no_tables h.0 (W.words w.old) }
+    requires allowed { AllowsLawful (W.allows (W.guard w.old)) g.old.pages g.old.harts h.0 (W.words w.old) }
     ensures called { Called g.old.pages g.old.harts h.0 c (W.words w.old) (W.words w.new) g.old.memory g.new.memory result }
     ensures guard { W.guard w.new ≡ W.guard w.old }
     ensures board { (g.new.pages ≡ g.old.pages) × (g.new.harts ≡ g.old.harts) }
@@ -57,7 +57,7 @@ pub fn call<W: Words>(w: &mut W, g: &mut Ground, h: HartId, c: HostCall) -> Repl
 /// Puts `n` pages of the host's from the byte address `base` on into conversion.
 pub fn convert_pages<W: Words>(w: &mut W, g: &mut Ground, h: HartId, base: u64, n: u64) -> Reply
     requires ready { IsReady g.old.pages g.old.harts h.0 (W.words w.old) g.old.memory }
-    requires allowed { AllowsLawful (W.allows (W.guard w.old)) g.old.pages g.old.harts no_tables h.0 (W.words w.old) }
+    requires allowed { AllowsLawful (W.allows (W.guard w.old)) g.old.pages g.old.harts h.0 (W.words w.old) }
     ensures called { Called g.old.pages g.old.harts h.0 (HostCall.Convert base n)
         (W.words w.old) (W.words w.new) g.old.memory g.new.memory result }
     ensures guard { W.guard w.new ≡ W.guard w.old }
@@ -81,7 +81,7 @@ pub fn convert_pages<W: Words>(w: &mut W, g: &mut Ground, h: HartId, base: u64, 
 /// Begins a global fence, which its caller answers.
 pub fn global_fence<W: Words>(w: &mut W, g: &mut Ground, h: HartId) -> Reply
     requires ready { IsReady g.old.pages g.old.harts h.0 (W.words w.old) g.old.memory }
-    requires allowed { AllowsLawful (W.allows (W.guard w.old)) g.old.pages g.old.harts no_tables h.0 (W.words w.old) }
+    requires allowed { AllowsLawful (W.allows (W.guard w.old)) g.old.pages g.old.harts h.0 (W.words w.old) }
     ensures called { Called g.old.pages g.old.harts h.0 HostCall.GlobalFence
         (W.words w.old) (W.words w.new) g.old.memory g.new.memory result }
     ensures guard { W.guard w.new ≡ W.guard w.old }
@@ -99,7 +99,7 @@ pub fn global_fence<W: Words>(w: &mut W, g: &mut Ground, h: HartId) -> Reply
 /// Answers the last global fence for the caller.
 pub fn local_fence<W: Words>(w: &mut W, g: &mut Ground, h: HartId) -> Reply
     requires ready { IsReady g.old.pages g.old.harts h.0 (W.words w.old) g.old.memory }
-    requires allowed { AllowsLawful (W.allows (W.guard w.old)) g.old.pages g.old.harts no_tables h.0 (W.words w.old) }
+    requires allowed { AllowsLawful (W.allows (W.guard w.old)) g.old.pages g.old.harts h.0 (W.words w.old) }
     ensures called { Called g.old.pages g.old.harts h.0 HostCall.LocalFence
         (W.words w.old) (W.words w.new) g.old.memory g.new.memory result }
     ensures guard { W.guard w.new ≡ W.guard w.old }
@@ -112,7 +112,7 @@ pub fn local_fence<W: Words>(w: &mut W, g: &mut Ground, h: HartId) -> Reply
 /// Gives `n` free pages from the byte address `base` on back to the host, filled with zeros.
 pub fn reclaim_pages<W: Words>(w: &mut W, g: &mut Ground, h: HartId, base: u64, n: u64) -> Reply
     requires ready { IsReady g.old.pages g.old.harts h.0 (W.words w.old) g.old.memory }
-    requires allowed { AllowsLawful (W.allows (W.guard w.old)) g.old.pages g.old.harts no_tables h.0 (W.words w.old) }
+    requires allowed { AllowsLawful (W.allows (W.guard w.old)) g.old.pages g.old.harts h.0 (W.words w.old) }
     ensures called { Called g.old.pages g.old.harts h.0 (HostCall.Reclaim base n)
         (W.words w.old) (W.words w.new) g.old.memory g.new.memory result }
     ensures guard { W.guard w.new ≡ W.guard w.old }

@@ -10,7 +10,7 @@ ghost use Rattle.cove_core.specs.Made.{IsMade, IsPerformed};
 ghost use Rattle.cove_core.specs.Reached.{IsPrepared};
 ghost use Rattle.cove_core.specs.Stepped.{IsAhead, IsBehind, IsFirst, IsLimit, IsStill, OnAhead, OnDid};
 ghost use Rattle.cove_model.specs.LawfulCounts.{CountsEntries};
-ghost use Rattle.cove_model.specs.LawfulStores.{AllowsLawful, no_tables};
+ghost use Rattle.cove_model.specs.LawfulStores.{AllowsLawful};
 ghost use Rattle.cove_hart.specs.HartStates.{hart_value};
 ghost use Rattle.cove_model.specs.Fits.{Fits};
 
@@ -41,7 +41,7 @@ pub fn event_step<W: Words>(
     requires kept { IsKept script.now (W.words w.old) mon.old }
     requires fits { Fits script.now mon.old.history (hart_value hart.old) }
     requires prepared { IsPrepared script.now (hart_value hart.old) }
-    requires allowed { AllowsLawful (W.allows (W.guard w.old)) script.now.pages script.now.harts no_tables hart.old.hart.0 (W.words w.old) }
+    requires allowed { AllowsLawful (W.allows (W.guard w.old)) script.now.pages script.now.harts hart.old.hart.0 (W.words w.old) }
     requires counted { CountsEntries (W.counts (W.guard w.old)) script.now mon.old.history hart.old.hart.0 }
     ensures made { OnDid result (λ place. IfSome (slice_get mon.new.history place) (λ entry.
         IsMade script.now (W.words w.old) (W.words w.new) mon.old mon.new (hart_value hart.old) (hart_value hart.new) entry)) }

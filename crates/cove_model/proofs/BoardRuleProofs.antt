@@ -31,7 +31,7 @@ use Rattle.cove_model.specs.Cached.{IsReached, WasFound}
 use Rattle.cove_model.specs.Fits.{Fits, InsideFits, UnusedFits, WalkFits, WayFits, rings_of, seat_of, walked_rings}
 use Rattle.cove_model.specs.Histories.{after}
 use Rattle.cove_model.specs.LawfulCounts.{IsCountable}
-use Rattle.cove_model.specs.LawfulStores.{Tables, IsLawful, Counts, Converts, Frees, Gives, TakesBack, Removes, Answers, Begins}
+use Rattle.cove_model.specs.LawfulStores.{IsLawful, Counts, Converts, Frees, Gives, TakesBack, Removes, ChangesTable, Answers, Begins, FencesTvm, Enters, Leaves}
 use Rattle.cove_model.specs.Owners.{Owner, Host, Converting, Free, Given, has, may_use, page_at}
 use Rattle.cove_model.specs.Pages.{root_of}
 use Rattle.cove_model.specs.States.{Seat, State}
@@ -64,7 +64,7 @@ usable_in pages harts words S h p stands may =
 -- ---- a lawful store
 
 -- it is none of the count
-beside_count : {pages harts : ℕ} {tables : ℕ → Tables} {hart : ℕ} {old words : List ℕ} {place word : ℕ} → IsLawful pages harts tables hart old words place word → count_word pages harts ≢ place
+beside_count : {pages harts : ℕ} {hart : ℕ} {old words : List ℕ} {place word : ℕ} → IsLawful pages harts hart old words place word → count_word pages harts ≢ place
 beside_count (Counts page before after is at was new few) = omega arith
 beside_count (Converts page is at was now new) = omega arith
 beside_count (Frees page is at free new) = omega arith
@@ -73,8 +73,12 @@ beside_count (TakesBack page tvm role is at was new left) = omega arith
 beside_count (Removes page tvm is at was new none) = omega arith
 beside_count (Answers is at new) = omega arith
 beside_count (Begins at room new all) = omega arith
+beside_count (ChangesTable tvm page i is below at of change) = omega arith
+beside_count (FencesTvm tvm low high at room new all) = omega arith
+beside_count (Enters tvm root is low high at out new owned) = omega arith
+beside_count (Leaves tvm is at here new) = omega arith
 
-module _ (script : ScriptValue) (history : List Entry) (old now : List ℕ) (tables : ℕ → Tables) (hart place word : ℕ) (part : IsMonitored script history old now) (bounded : AreBounded script.pages script.harts now) (lawful : IsLawful script.pages script.harts tables hart old now place word) where
+module _ (script : ScriptValue) (history : List Entry) (old now : List ℕ) (hart place word : ℕ) (part : IsMonitored script history old now) (bounded : AreBounded script.pages script.harts now) (lawful : IsLawful script.pages script.harts hart old now place word) where
   store_monitored : IsMonitored script history old (set now place word)
   store_monitored = record {
     legal = part.legal;
@@ -87,8 +91,8 @@ module _ (script : ScriptValue) (history : List Entry) (old now : List ℕ) (tab
 
   store_bounded : AreBounded script.pages script.harts (set now place word)
   store_bounded = record {
-    within = stores_keep_answers script.pages script.harts tables hart old now place word part.size bounded.within lawful;
-    fences = stores_keep_fences script.pages script.harts tables hart old now place word part.size bounded.fences lawful;
+    within = stores_keep_answers script.pages script.harts hart old now place word part.size bounded.within lawful;
+    fences = stores_keep_fences script.pages script.harts hart old now place word part.size bounded.fences lawful;
   }
 
   -- a page that had no pending store was the host's after the last entry
@@ -99,7 +103,7 @@ module _ (script : ScriptValue) (history : List Entry) (old now : List ℕ) (tab
   store_walk : (h : ℕ) (target : Target) (w : Walked) → WalkLives script history now h target w → WalkLives script history (set now place word) h target w
   store_walk h (targets.Host p) (walks.Found page) lives =
       let next = ⊎_elim
-      (λ is. ⊎_elim inl (λ was. inr (old_host h p lives.1 was)) (stores_keep_host script.pages script.harts tables hart old now place word p.0 part.size lives.1 lawful is))
+      (λ is. ⊎_elim inl (λ was. inr (old_host h p lives.1 was)) (stores_keep_host script.pages script.harts hart old now place word p.0 part.size lives.1 lawful is))
       inr
       lives.2 in
       (lives.0, lives.1, next)
@@ -116,32 +120,32 @@ module _ (script : ScriptValue) (history : List Entry) (old now : List ℕ) (tab
     on_board = live.on_board;
     usable = λ p named.
         let was = live.usable p named in
-        (was.0, stores_keep_usable script.pages script.harts tables hart other.hart old now place word p part.size bounded.within live.on_board ne was.0 lawful was.1);
+        (was.0, stores_keep_usable script.pages script.harts hart other.hart old now place word p part.size bounded.within live.on_board ne was.0 lawful was.1);
     walk = store_unused other.hart other.walked live.walk;
     rings = live.rings;
     way = live.way;
   }
 
 pub stores_keep_rule : StoresKeepRule
-stores_keep_rule script history old now tables hart place word part bounded lawful =
-    (store_monitored script history old now tables hart place word part bounded lawful, store_bounded script history old now tables hart place word part bounded lawful, store_live script history old now tables hart place word part bounded lawful)
+stores_keep_rule script history old now hart place word part bounded lawful =
+    (store_monitored script history old now hart place word part bounded lawful, store_bounded script history old now hart place word part bounded lawful, store_live script history old now hart place word part bounded lawful)
 
 pub stores_keep_walks : StoresKeepWalks
-stores_keep_walks script history old now tables hart place word part bounded lawful =
-    store_unused script history old now tables hart place word part bounded lawful
+stores_keep_walks script history old now hart place word part bounded lawful =
+    store_unused script history old now hart place word part bounded lawful
 
 -- ---- a list of them
 
-lists_from : (script : ScriptValue) (history : List Entry) (old : List ℕ) (tables : ℕ → Tables) (hart : ℕ) (ss : List (ℕ × ℕ)) (now : List ℕ) → IsMonitored script history old now → AreBounded script.pages script.harts now → AllAllowed (IsLawful script.pages script.harts tables hart old) now ss → IsMonitored script history old (stored now ss) × AreBounded script.pages script.harts (stored now ss) × ((other : Holding) → other.hart ≢ hart → IsLive script history now other → IsLive script history (stored now ss) other)
-lists_from script history old tables hart [] now part bounded all = (part, bounded, λ other ne live. live)
-lists_from script history old tables hart (s ∷ ss) now part bounded all =
-    let one = stores_keep_rule script history old now tables hart s.0 s.1 part bounded all.0 in
-    let rest = lists_from script history old tables hart ss (set now s.0 s.1) one.0 one.1 all.1 in
+lists_from : (script : ScriptValue) (history : List Entry) (old : List ℕ) (hart : ℕ) (ss : List (ℕ × ℕ)) (now : List ℕ) → IsMonitored script history old now → AreBounded script.pages script.harts now → AllAllowed (IsLawful script.pages script.harts hart old) now ss → IsMonitored script history old (stored now ss) × AreBounded script.pages script.harts (stored now ss) × ((other : Holding) → other.hart ≢ hart → IsLive script history now other → IsLive script history (stored now ss) other)
+lists_from script history old hart [] now part bounded all = (part, bounded, λ other ne live. live)
+lists_from script history old hart (s ∷ ss) now part bounded all =
+    let one = stores_keep_rule script history old now hart s.0 s.1 part bounded all.0 in
+    let rest = lists_from script history old hart ss (set now s.0 s.1) one.0 one.1 all.1 in
     (rest.0, rest.1, λ other ne live. rest.2 other ne (one.2 other (answers_apart all.0 other.hart live.on_board ne) live))
 
 pub lists_keep_rule : ListsKeepRule
-lists_keep_rule script history old now new tables hart part bounded leads =
-    let all = lists_from script history old tables hart leads.0 now part bounded leads.1 in
+lists_keep_rule script history old now new hart part bounded leads =
+    let all = lists_from script history old hart leads.0 now part bounded leads.1 in
     (subst (IsMonitored script history old) (sym leads.2) all.0, subst (AreBounded script.pages script.harts) (sym leads.2) all.1, λ other ne live. subst (λ ws. IsLive script history ws other) (sym leads.2) (all.2 other ne live))
 
 -- ---- the store of the count

@@ -36,6 +36,12 @@ pub mod HartsInside
 pub mod Histories
 pub mod Holding
 pub mod Ways
+pub mod SlotStores
+pub mod LeafWords
+pub mod OwnedStores
+pub mod GuestStores
+pub mod SharedLeaves
+mod TableExampleProofs
 pub mod Keeping
 pub mod KeepingCalls
 pub mod KeyedLemmas

@@ -1,12 +1,12 @@
 -- A lawful store, place by place.
-use Rattle.std.proofs.Common.{◌≡◌, ◌≢◌, ℕ, ◌+◌, ◌<◌, ◌≤◌, ◌⊎◌, List, get_or, inl, inr, arith, get_or-set_other}
+use Rattle.std.proofs.Common.{◌≡◌, ◌≢◌, ℕ, ◌+◌, ◌*◌, ◌<◌, ◌≤◌, ◌⊎◌, List, get_or, inl, inr, arith, get_or-set_other}
 use Rattle.cove_base.specs.PageWords.{host, converting, given, IsHostWord}
-use Rattle.cove_base.specs.Places.{epoch_word, answered_word, tvm_word}
-use Rattle.cove_base.specs.declared.limits.TheConstants.{ENTRY_LIMIT}
+use Rattle.cove_base.specs.Places.{all_words, epoch_word, answered_word, hart_word, tvm_word}
+use Rattle.cove_base.specs.declared.limits.TheConstants.{ENTRY_LIMIT, TVM_LIMIT}
 use Rattle.cove_base.specs.declared.numbers.Role.{Role}
 use Rattle.cove_base.specs.declared.numbers.Role.TheVariants.{Data}
 use Rattle.cove_model.specs.WordsStand.{FreeStands, epoch_in, answered_in}
-use Rattle.cove_model.specs.LawfulStores.{Tables, IsLawful, Counts, Converts, Frees, Gives, TakesBack, Removes, Answers, Begins}
+use Rattle.cove_model.specs.LawfulStores.{IsLawful, Counts, Converts, Frees, Gives, TakesBack, Removes, ChangesTable, Answers, Begins, FencesTvm, Enters, Leaves}
 use Rattle.cove_model.proofs.StandLemmas.{set_cases}
 use Rattle.cove_model.specs.StoreLaw.{IsUsableWord, StoresKeepUsable, StoresKeepHost, StoresKeepAnswers, StoresKeepFences}
 
@@ -21,7 +21,7 @@ given_unused : (harts : ℕ) (numbers : ℕ → ℕ) (word tvm : ℕ) (role : Ro
 given_unused harts numbers word tvm role is = (λ host. omega arith, λ hart on may. grind arith)
 
 -- a store of a page word: the page is the host's then, or it goes into conversion and was the host's and not mapped, or it was unused
-next_word : {pages harts : ℕ} {tables : ℕ → Tables} {hart : ℕ} {old words : List ℕ} {place word : ℕ} → IsLawful pages harts tables hart old words place word → place < pages
+next_word : {pages harts : ℕ} {hart : ℕ} {old words : List ℕ} {place word : ℕ} → IsLawful pages harts hart old words place word → place < pages
     → IsHostWord word ⊎ (((word ≡ converting (epoch_in pages words)) × (get_or old place 0 ≡ host 0)) ⊎ IsUnused harts (answered_in pages words) (get_or words place 0))
 next_word (Counts page before after is at was new few) on = inl (after, new)
 next_word (Converts page is at was now new) on = inr (inl (new, was))
@@ -31,50 +31,133 @@ next_word (TakesBack page tvm role is at was new left) on = inr (inr (given_unus
 next_word (Removes page tvm is at was new none) on = inr (inr (given_unused _ _ _ tvm Data was))
 next_word (Answers is at new) on = absurd (omega arith)
 next_word (Begins at room new all) on = absurd (omega arith)
+next_word (ChangesTable tvm page i is below at of change) on = absurd (omega arith)
+next_word (FencesTvm tvm low high at room new all) on = absurd (omega arith)
+next_word (Enters tvm root is low high at out new owned) on = absurd (omega arith)
+next_word (Leaves tvm is at here new) on = absurd (omega arith)
 
--- a lawful store is one of a page word, of the number of its hart or of the epoch
-place_of : {pages harts : ℕ} {tables : ℕ → Tables} {hart : ℕ} {old words : List ℕ} {place word : ℕ} → IsLawful pages harts tables hart old words place word
-    → (place < pages) ⊎ (((place ≡ answered_word pages hart) × (hart < harts) × (word ≡ epoch_in pages words)) ⊎ ((place ≡ epoch_word pages) × (epoch_in pages words < ENTRY_LIMIT) × (word ≡ epoch_in pages words + 1)))
+-- a store beside the page words, the answered numbers and the epoch: of a table, of the number of a TVM, which rises by one, or of a hart
+data IsBeside (pages harts : ℕ) (words : List ℕ) (place word : ℕ) : Type 0 where
+  OfTable : pages ≤ place → place < 513 * pages → IsBeside pages harts words place word
+  OfTvm : (tvm : ℕ) → tvm ≤ TVM_LIMIT → place ≡ tvm_word pages harts tvm → word ≤ ENTRY_LIMIT → IsBeside pages harts words place word
+  OfHart : (hart : ℕ) → hart < harts → place ≡ hart_word pages harts hart → IsBeside pages harts words place word
+
+-- a lawful store is one of a page word, of the number of its hart, of the epoch, or one beside them
+place_of : {pages harts : ℕ} {hart : ℕ} {old words : List ℕ} {place word : ℕ} → IsLawful pages harts hart old words place word
+    → (place < pages) ⊎ (((place ≡ answered_word pages hart) × (hart < harts) × (word ≡ epoch_in pages words)) ⊎ (((place ≡ epoch_word pages) × (epoch_in pages words < ENTRY_LIMIT) × (word ≡ epoch_in pages words + 1)) ⊎ IsBeside pages harts words place word))
 place_of (Counts page before after is at was new few) = inl (omega arith)
 place_of (Converts page is at was now new) = inl (omega arith)
 place_of (Frees page is at free new) = inl (omega arith)
 place_of (Gives page tvm role is low high at free new left) = inl (omega arith)
 place_of (TakesBack page tvm role is at was new left) = inl (omega arith)
 place_of (Removes page tvm is at was new none) = inl (omega arith)
+place_of (ChangesTable tvm page i is below at of change) = inr (inr (inr (OfTable (omega arith) (omega arith))))
 place_of (Answers is at new) = inr (inl (at, is, new))
-place_of (Begins at room new all) = inr (inr (at, room, new))
+place_of (Begins at room new all) = inr (inr (inl (at, room, new)))
+place_of (FencesTvm tvm low high at room new all) = inr (inr (inr (OfTvm tvm high at (omega arith))))
+place_of {pages} {harts} {hart} (Enters tvm root is low high at out new owned) = inr (inr (inr (OfHart hart is at)))
+place_of {pages} {harts} {hart} (Leaves tvm is at here new) = inr (inr (inr (OfHart hart is at)))
+
+-- one beside them is to none of them
+beside_apart : {pages harts : ℕ} {words : List ℕ} {place word : ℕ} → IsBeside pages harts words place word → (pages ≤ place) × (epoch_word pages ≢ place) × ((k : ℕ) → k < harts → answered_word pages k ≢ place)
+beside_apart (OfTable low high) = (low, omega arith, λ k on. omega arith)
+beside_apart (OfTvm tvm high at few) = (omega arith, omega arith, λ k on. omega arith)
+beside_apart (OfHart hart is at) = (omega arith, omega arith, λ k on. omega arith)
+
+-- it is to one of the words
+beside_within : {pages harts : ℕ} {words : List ℕ} {place word : ℕ} → IsBeside pages harts words place word → place < all_words pages harts
+beside_within (OfTable low high) = omega arith
+beside_within (OfTvm tvm high at few) = omega arith
+beside_within (OfHart hart is at) = omega arith
+
+pub lawful_within : {pages harts : ℕ} {hart : ℕ} {old words : List ℕ} {place word : ℕ} → IsLawful pages harts hart old words place word → place < all_words pages harts
+lawful_within {pages} {harts} {hart} {old} {words} {place} {word} lawful = elim (place_of lawful) [
+  | inl page ↦ omega arith
+  | inr rest ↦ elim rest [
+    | inl own ↦ let at : place ≡ answered_word pages hart = own.0 in let on : hart < harts = own.1 in omega arith
+    | inr more ↦ elim more [
+      | inl begun ↦ let at : place ≡ epoch_word pages = begun.0 in omega arith
+      | inr beside ↦ beside_within beside
+    ]
+  ]
+]
 
 pub stores_keep_answers : StoresKeepAnswers
-stores_keep_answers pages harts tables hart old words place word size within lawful k on =
-    let kind = place_of lawful in
+stores_keep_answers pages harts hart old words place word size within lawful k on =
+    let inside = lawful_within lawful in
     let was : answered_in pages words k ≤ epoch_in pages words = within k on in
     let epoch = set_cases words place word (epoch_word pages) (omega arith) in
     let number = set_cases words place word (answered_word pages k) (omega arith) in
-    omega arith
+    elim (place_of lawful) [
+      | inl page ↦ omega arith
+      | inr rest ↦ elim rest [
+        | inl own ↦ let at : place ≡ answered_word pages hart = own.0 in let new : word ≡ epoch_in pages words = own.2 in omega arith
+        | inr more ↦ elim more [
+          | inl begun ↦ let at : place ≡ epoch_word pages = begun.0 in let new : word ≡ epoch_in pages words + 1 = begun.2 in omega arith
+          | inr beside ↦ let apart = beside_apart beside in let e = apart.1 in let a = apart.2 k on in omega arith
+        ]
+      ]
+    ]
 
 -- a lawful store is none of the answered number of another hart
-pub answers_apart : {pages harts : ℕ} {tables : ℕ → Tables} {hart : ℕ} {old words : List ℕ} {place word : ℕ} → IsLawful pages harts tables hart old words place word → (other : ℕ) → other < harts → other ≢ hart → answered_word pages other ≢ place
-answers_apart {pages} {harts} {tables} {hart} {old} {words} {place} {word} lawful other on ne = elim (place_of lawful) [
+pub answers_apart : {pages harts : ℕ} {hart : ℕ} {old words : List ℕ} {place word : ℕ} → IsLawful pages harts hart old words place word → (other : ℕ) → other < harts → other ≢ hart → answered_word pages other ≢ place
+answers_apart {pages} {harts} {hart} {old} {words} {place} {word} lawful other on ne = elim (place_of lawful) [
   | inl page ↦ omega arith
   | inr rest ↦ elim rest [
     | inl own ↦ let at : place ≡ answered_word pages hart = own.0 in omega arith
-    | inr begun ↦ let at : place ≡ epoch_word pages = begun.0 in omega arith
+    | inr more ↦ elim more [
+      | inl begun ↦ let at : place ≡ epoch_word pages = begun.0 in omega arith
+      | inr beside ↦ (beside_apart beside).2 other on
+    ]
+  ]
+]
+
+fence_stays : {pages harts : ℕ} {words : List ℕ} {place word : ℕ} → IsBeside pages harts words place word → (t : ℕ) → 1 ≤ t → t ≤ TVM_LIMIT → (tvm_word pages harts t ≢ place) ⊎ (word ≤ ENTRY_LIMIT)
+fence_stays (OfTable low high) t some few = inl (omega arith)
+fence_stays (OfTvm tvm high at most) t some few = inr most
+fence_stays (OfHart hart is at) t some few = inl (omega arith)
+
+-- the number of a TVM stays, or the store is of a number within the limit
+number_stays : {pages harts : ℕ} {hart : ℕ} {old words : List ℕ} {place word : ℕ} → IsLawful pages harts hart old words place word → (t : ℕ) → 1 ≤ t → t ≤ TVM_LIMIT → (tvm_word pages harts t ≢ place) ⊎ (word ≤ ENTRY_LIMIT)
+number_stays {pages} {harts} {hart} {old} {words} {place} {word} lawful t some few = elim (place_of lawful) [
+  | inl page ↦ inl (omega arith)
+  | inr rest ↦ elim rest [
+    | inl own ↦ let at : place ≡ answered_word pages hart = own.0 in let on : hart < harts = own.1 in inl (omega arith)
+    | inr more ↦ elim more [
+      | inl begun ↦ let at : place ≡ epoch_word pages = begun.0 in inl (omega arith)
+      | inr beside ↦ fence_stays beside t some few
+    ]
   ]
 ]
 
 pub stores_keep_fences : StoresKeepFences
-stores_keep_fences pages harts tables hart old words place word size limit lawful =
-    let kind = place_of lawful in record {
-      epoch =
-          let most = limit.epoch in
-          let epoch = set_cases words place word (epoch_word pages) (omega arith) in
-          omega arith;
-      numbers = λ t low high. rw (get_or-set_other words place (tvm_word pages harts t) word 0 (omega arith)) (limit.numbers t low high);
-    }
+stores_keep_fences pages harts hart old words place word size limit lawful = record {
+  epoch =
+      let inside = lawful_within lawful in
+      let most = limit.epoch in
+      let epoch = set_cases words place word (epoch_word pages) (omega arith) in
+      elim (place_of lawful) [
+        | inl page ↦ omega arith
+        | inr rest ↦ elim rest [
+          | inl own ↦ let at : place ≡ answered_word pages hart = own.0 in omega arith
+          | inr more ↦ elim more [
+            | inl begun ↦ let room : epoch_in pages words < ENTRY_LIMIT = begun.1 in let new : word ≡ epoch_in pages words + 1 = begun.2 in omega arith
+            | inr beside ↦ let e = (beside_apart beside).1 in omega arith
+          ]
+        ]
+      ];
+  numbers = λ t low high.
+      let inside = lawful_within lawful in
+      let most = limit.numbers t low high in
+      elim (number_stays lawful t low high) [
+        | inl apart ↦ rw (get_or-set_other words place (tvm_word pages harts t) word 0 apart) most
+        | inr few ↦ let number = set_cases words place word (tvm_word pages harts t) (omega arith) in omega arith
+      ];
+}
 
 pub stores_keep_usable : StoresKeepUsable
-stores_keep_usable pages harts tables hart other old words place word p size within on ne inside lawful may =
-    let kind = place_of lawful in
+stores_keep_usable pages harts hart other old words place word p size within on ne inside lawful may =
+    let there = lawful_within lawful in
     rw (get_or-set_other words place (answered_word pages other) word 0 ne) (elim (set_cases words place word p (omega arith)) [
       | inl here ↦ rw here.1 (elim (next_word lawful (omega arith)) [
         | inl is ↦ inl is
@@ -87,8 +170,8 @@ stores_keep_usable pages harts tables hart other old words place word p size wit
     ])
 
 pub stores_keep_host : StoresKeepHost
-stores_keep_host pages harts tables hart old words place word p size inside lawful may =
-    let kind = place_of lawful in
+stores_keep_host pages harts hart old words place word p size inside lawful may =
+    let there = lawful_within lawful in
     elim (set_cases words place word p (omega arith)) [
       | inl here ↦ rw here.1 (elim (next_word lawful (omega arith)) [
         | inl is ↦ inl is

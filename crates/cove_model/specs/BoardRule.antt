@@ -20,7 +20,7 @@ use Rattle.cove_model.specs.Cached.{IsCached, WasFound}
 use Rattle.cove_model.specs.Fits.{Fits, WasLed, WayFits, rings_of, walked_rings, way_in}
 use Rattle.cove_model.specs.Histories.{Legal, after}
 use Rattle.cove_model.specs.LawfulCounts.{IsCountable, counted}
-use Rattle.cove_model.specs.LawfulStores.{Tables, IsLawful, MakesLawful}
+use Rattle.cove_model.specs.LawfulStores.{IsLawful, MakesLawful}
 use Rattle.cove_model.specs.StoreLaw.{MayUse}
 use Rattle.cove_model.specs.Translations.{tlb}
 use Rattle.cove_model.specs.WordLaws.{AnswersWithin}
@@ -84,9 +84,9 @@ pub record IsLive (script : ScriptValue) (history : List Entry) (words : List �
 -- unless it stores its answered number.
 abbrev pub StoresKeepRule : Type 0
 StoresKeepRule =
-    (script : ScriptValue) (history : List Entry) (old now : List ℕ) (tables : ℕ → Tables) (hart place word : ℕ)
+    (script : ScriptValue) (history : List Entry) (old now : List ℕ) (hart place word : ℕ)
     → IsMonitored script history old now → AreBounded script.pages script.harts now
-    → IsLawful script.pages script.harts tables hart old now place word
+    → IsLawful script.pages script.harts hart old now place word
     → IsMonitored script history old (slice_set now place word)
     × AreBounded script.pages script.harts (slice_set now place word)
     × ((other : Holding) → answered_word script.pages other.hart ≢ place
@@ -95,18 +95,18 @@ StoresKeepRule =
 -- And it keeps an unused walk of each hart right.
 abbrev pub StoresKeepWalks : Type 0
 StoresKeepWalks =
-    (script : ScriptValue) (history : List Entry) (old now : List ℕ) (tables : ℕ → Tables) (hart place word : ℕ)
+    (script : ScriptValue) (history : List Entry) (old now : List ℕ) (hart place word : ℕ)
     → IsMonitored script history old now → AreBounded script.pages script.harts now
-    → IsLawful script.pages script.harts tables hart old now place word
+    → IsLawful script.pages script.harts hart old now place word
     → (other : ℕ) (noted : Option Noted)
     → UnusedLives script history now other noted → UnusedLives script history (slice_set now place word) other noted
 
 -- A list of lawful stores keeps the rule of every other hart.
 abbrev pub ListsKeepRule : Type 0
 ListsKeepRule =
-    (script : ScriptValue) (history : List Entry) (old now new : List ℕ) (tables : ℕ → Tables) (hart : ℕ)
+    (script : ScriptValue) (history : List Entry) (old now new : List ℕ) (hart : ℕ)
     → IsMonitored script history old now → AreBounded script.pages script.harts now
-    → MakesLawful script.pages script.harts tables hart old now new
+    → MakesLawful script.pages script.harts hart old now new
     → IsMonitored script history old new
     × AreBounded script.pages script.harts new
     × ((other : Holding) → other.hart ≢ hart → IsLive script history now other → IsLive script history new other)

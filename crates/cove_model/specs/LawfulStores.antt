@@ -1,105 +1,186 @@
 -- Which stores to the shared words a hart may make while it is held.
-use Rattle.std.specs.Prelude.{◌≡◌, ℕ, ◌+◌, ◌*◌, ◌^◌, ◌<◌, ◌≤◌, ◌⊎◌, List, [], Contains, slice_index}
+use Rattle.std.specs.Prelude.{◌≡◌, ◌≢◌, ℕ, ◌+◌, ◌*◌, ◌^◌, ◌<◌, ◌≤◌, ◌⊎◌, Bool, true, false, List, [], slice_index}
 use Rattle.cove_base.specs.PageWords.{host, converting, given, released}
-use Rattle.cove_base.specs.Places.{page_word, table_word, epoch_word, answered_word, hart_word}
+use Rattle.cove_base.specs.Places.{page_word, table_word, epoch_word, answered_word, hart_word, tvm_word}
 use Rattle.cove_base.specs.Stores.{Leads}
-use Rattle.cove_base.specs.TableWords.{NamesPage}
+use Rattle.cove_base.specs.TableWords.{blocked}
+use Rattle.cove_base.specs.Tables.{InLast, Slot, IsLinkSlot, Names, StandsAt, entry_at, leaf_at, next_table, present}
 use Rattle.cove_base.specs.declared.limits.TheConstants.{ENTRY_LIMIT, TVM_LIMIT}
 use Rattle.cove_base.specs.declared.numbers.Role.{Role}
-use Rattle.cove_base.specs.declared.numbers.Role.TheVariants.{Root, Data}
-use Rattle.cove_model.specs.WordsStand.{epoch_in, answered_in, FreeStands}
+use Rattle.cove_base.specs.declared.numbers.Role.TheVariants.{Root, Table, Data}
+use Rattle.cove_model.specs.WordsStand.{epoch_in, answered_in, number_in, FreeStands}
 
--- a prefix of guest pages that a table page serves: the leaves of 512 guest pages, or the entries of 512 such prefixes
-pub data Level : Type 0 where
-  Leaves : Level
-  Middle : Level
+-- ---- harts inside, by the words
 
-pub record Link : Type 0 where
-  pub level : Level
-  pub prefix : ℕ
-  pub page : ℕ
-
--- the tables of a TVM: its root, and the table pages that serve a prefix
-pub record Tables : Type 0 where
-  pub root : ℕ
-  pub links : List Link
-
--- the tables of each TVM where none has any
-abbrev pub no_tables : (tvm : ℕ) → Tables
-no_tables tvm = record { root = 0; links = [] }
-
--- the word is a leaf, present or blocked, that names the page, in a table of the TVM
-abbrev pub LeafNames : (pages : ℕ) → Tables → (words : List ℕ) (page : ℕ) → Type 0
-LeafNames pages tables words page =
-    (link : Link) × Contains tables.links link × (link.level ≡ Leaves)
-    × ((i : ℕ) × (i < 512) × NamesPage page (slice_index words (table_word pages link.page i)))
+-- a hart is inside a TVM, by its word, and entered with this number
+abbrev pub HasEntered : (pages harts : ℕ) (words : List ℕ) (tvm hart number : ℕ) → Type 0
+HasEntered pages harts words tvm hart number =
+    (number < 2 ^ 32) × (slice_index words (hart_word pages harts hart) ≡ 2 ^ 32 * tvm + number)
 
 -- a hart is inside a TVM, by its word
 abbrev pub IsInside : (pages harts : ℕ) (words : List ℕ) (tvm hart : ℕ) → Type 0
-IsInside pages harts words tvm hart =
-    (number : ℕ) × (number < 2 ^ 32) × (slice_index words (hart_word pages harts hart) ≡ 2 ^ 32 * tvm + number)
+IsInside pages harts words tvm hart = (number : ℕ) × HasEntered pages harts words tvm hart number
 
 -- no hart is inside a TVM
 abbrev pub IsLeft : (pages harts : ℕ) (words : List ℕ) (tvm : ℕ) → Type 0
 IsLeft pages harts words tvm = (hart : ℕ) → hart < harts → IsInside pages harts words tvm hart → ⊥
+
+-- every hart inside a TVM entered with a number above this one
+abbrev pub AreInsideAbove : (pages harts : ℕ) (words : List ℕ) (tvm since : ℕ) → Type 0
+AreInsideAbove pages harts words tvm since =
+    (hart number : ℕ) → hart < harts → HasEntered pages harts words tvm hart number → since < number
+
+-- ---- tables of a TVM, by the words
+
+-- the root of a TVM's tables: the first of four pages that are given to it as one
+pub record IsRoot (pages : ℕ) (words : List ℕ) (tvm root : ℕ) : Type 0 where
+  pub fits : root + 4 ≤ pages
+  pub roots : (i : ℕ) → i < 4 → slice_index words (page_word (root + i)) ≡ given tvm Root
+  pub least : (p : ℕ) → p < root → slice_index words (page_word p) ≢ given tvm Root
+
+-- a leaf of the TVM, present or blocked, names the page
+abbrev pub LeafNames : (pages : ℕ) (words : List ℕ) (tvm page : ℕ) → Type 0
+LeafNames pages words tvm page =
+    (root : ℕ) × IsRoot pages words tvm root
+    × ((g : ℕ) × (g < 2 ^ 29) × ((shared : Bool) × Names page shared (leaf_at pages root words g)))
+
+-- a page has words of the tables of a TVM: it is given to it as a root or for tables
+abbrev pub IsTableOf : (words : List ℕ) (tvm page : ℕ) → Type 0
+IsTableOf words tvm page =
+    (slice_index words (page_word page) ≡ given tvm Root) ⊎ (slice_index words (page_word page) ≡ given tvm Table)
+
+-- what stands behind a leaf: a page of the TVM's memory, or one of the host's that is mapped
+abbrev pub IsBehind : (words : List ℕ) (tvm page : ℕ) (shared : Bool) → Type 0
+IsBehind words tvm page false = slice_index words (page_word page) ≡ given tvm Data
+IsBehind words tvm page true = (maps : ℕ) × (0 < maps) × (slice_index words (page_word page) ≡ host maps)
+
+-- The tables of a TVM are owned: each page that a link names is given to the TVM for tables, no two links name one, and each
+-- page that a leaf names, present or blocked, stands behind it.
+pub record AreOwned (pages : ℕ) (words : List ℕ) (tvm root : ℕ) : Type 0 where
+  pub root_is : IsRoot pages words tvm root
+  pub linked :
+      (a : Slot) (page : ℕ) → IsLinkSlot a → entry_at pages root words a ≡ next_table page
+      → (page < pages) × (slice_index words (page_word page) ≡ given tvm Table)
+  pub apart :
+      (a b : Slot) (page : ℕ) → IsLinkSlot a → IsLinkSlot b
+      → entry_at pages root words a ≡ next_table page → entry_at pages root words b ≡ next_table page → a ≡ b
+  pub backed :
+      (g page : ℕ) (shared : Bool) → g < 2 ^ 29 → page < 2 ^ 16 → Names page shared (leaf_at pages root words g)
+      → (page < pages) × IsBehind words tvm page shared
+
+-- How a word in the tables of a TVM may change, by what it was, what it becomes and where it stands.
+pub data TableChange (pages harts : ℕ) (words : List ℕ) (tvm : ℕ) (old : List ℕ) (place was word : ℕ) : Type 0 where
+  -- a table is linked in: a page that is given for tables, that no slot names, and whose words are 0
+  Links :
+      (page : ℕ) → was ≡ 0 → word ≡ next_table page → page < pages
+      → slice_index words (page_word page) ≡ given tvm Table
+      → ((root : ℕ) (a : Slot) → IsRoot pages words tvm root → IsLinkSlot a → entry_at pages root words a ≢ next_table page)
+      → ((i : ℕ) → i < 512 → slice_index words (table_word pages page i) ≡ 0)
+      → TableChange pages harts words tvm old place was word
+  -- a guest page is mapped to the page that stands behind it
+  Maps :
+      (page : ℕ) (shared : Bool) → was ≡ 0 → word ≡ present page shared → page < pages
+      → IsBehind words tvm page shared
+      → TableChange pages harts words tvm old place was word
+  -- a leaf that was present at the last entry too is blocked, with the TVM's number
+  Blocks :
+      (page : ℕ) (shared : Bool) (root g : ℕ) → page < 2 ^ 16 → was ≡ present page shared
+      → word ≡ blocked was (number_in pages harts words tvm)
+      → IsRoot pages words tvm root → g < 2 ^ 29 → StandsAt pages root words (InLast g) place
+      → leaf_at pages root old g ≡ was
+      → TableChange pages harts words tvm old place was word
+  -- a blocked leaf is present again
+  Unblocks :
+      (page : ℕ) (shared : Bool) (since : ℕ) → page < 2 ^ 16 → was ≡ blocked (present page shared) since
+      → word ≡ present page shared
+      → TableChange pages harts words tvm old place was word
+  -- a blocked leaf goes, where a fence came after it and every hart inside entered after that
+  Unmaps :
+      (page : ℕ) (shared : Bool) (since : ℕ) → page < 2 ^ 16 → was ≡ blocked (present page shared) since → word ≡ 0
+      → since < number_in pages harts words tvm → AreInsideAbove pages harts words tvm since
+      → TableChange pages harts words tvm old place was word
+  -- any word changes where no hart is inside
+  Rewrites : IsLeft pages harts words tvm → TableChange pages harts words tvm old place was word
+
+-- ---- lawful stores
 
 -- the page word is that of a free page
 abbrev pub IsFreeIn : (pages harts : ℕ) (words : List ℕ) (page : ℕ) → Type 0
 IsFreeIn pages harts words page =
     FreeStands harts (answered_in pages words) (slice_index words (page_word page))
 
--- The stores of a hart to page words, answered numbers and the epoch that are lawful on these words, where the words
--- were the old ones when the last entry was counted. The leaves are those of the tables of each TVM.
-pub data IsLawful (pages harts : ℕ) (tables : ℕ → Tables) (hart : ℕ) (old words : List ℕ) (place word : ℕ) : Type 0 where
+-- The stores of a hart that are lawful on these words, where the words were the old ones when the last entry was counted.
+pub data IsLawful (pages harts : ℕ) (hart : ℕ) (old words : List ℕ) (place word : ℕ) : Type 0 where
   -- the count of a page of the host's changes; it becomes 0 only where no leaf names the page
   Counts :
       (page before after : ℕ) → page < pages → place ≡ page_word page
       → slice_index words place ≡ host before → word ≡ host after
-      → (after ≡ 0 → (tvm : ℕ) → LeafNames pages (tables tvm) words page → ⊥)
-      → IsLawful pages harts tables hart old words place word
+      → (after ≡ 0 → (tvm : ℕ) → LeafNames pages words tvm page → ⊥)
+      → IsLawful pages harts hart old words place word
   -- a page of the host's that isn't mapped, and wasn't before, goes into conversion
   Converts :
       (page : ℕ) → page < pages → place ≡ page_word page
       → slice_index old place ≡ host 0 → slice_index words place ≡ host 0 → word ≡ converting (epoch_in pages words)
-      → IsLawful pages harts tables hart old words place word
+      → IsLawful pages harts hart old words place word
   -- a free page becomes the host's, or released
   Frees :
       (page : ℕ) → page < pages → place ≡ page_word page
       → IsFreeIn pages harts words page → (word ≡ host 0) ⊎ (word ≡ released)
-      → IsLawful pages harts tables hart old words place word
+      → IsLawful pages harts hart old words place word
   -- a free page is given to a TVM; as a root only where no hart is inside it
   Gives :
       (page tvm : ℕ) (role : Role) → page < pages → 1 ≤ tvm → tvm ≤ TVM_LIMIT → place ≡ page_word page
       → IsFreeIn pages harts words page → word ≡ given tvm role
       → (role ≡ Root → IsLeft pages harts words tvm)
-      → IsLawful pages harts tables hart old words place word
+      → IsLawful pages harts hart old words place word
   -- a page is taken back from a TVM that no hart is inside
   TakesBack :
       (page tvm : ℕ) (role : Role) → page < pages → place ≡ page_word page
       → slice_index words place ≡ given tvm role → word ≡ released
       → IsLeft pages harts words tvm
-      → IsLawful pages harts tables hart old words place word
+      → IsLawful pages harts hart old words place word
   -- a page of a TVM's memory is taken back that no leaf of the TVM names
   Removes :
       (page tvm : ℕ) → page < pages → place ≡ page_word page
       → slice_index words place ≡ given tvm Data → word ≡ released
-      → (LeafNames pages (tables tvm) words page → ⊥)
-      → IsLawful pages harts tables hart old words place word
+      → (LeafNames pages words tvm page → ⊥)
+      → IsLawful pages harts hart old words place word
+  -- a word in the tables of a TVM changes
+  ChangesTable :
+      (tvm page i : ℕ) → page < pages → i < 512 → place ≡ table_word pages page i → IsTableOf words tvm page
+      → TableChange pages harts words tvm old place (slice_index words place) word
+      → IsLawful pages harts hart old words place word
   -- the hart answers the epoch
   Answers :
       hart < harts → place ≡ answered_word pages hart → word ≡ epoch_in pages words
-      → IsLawful pages harts tables hart old words place word
+      → IsLawful pages harts hart old words place word
   -- the epoch rises by one, where every hart has answered it
   Begins :
       place ≡ epoch_word pages → epoch_in pages words < ENTRY_LIMIT → word ≡ epoch_in pages words + 1
       → ((other : ℕ) → other < harts → epoch_in pages words ≤ answered_in pages words other)
-      → IsLawful pages harts tables hart old words place word
+      → IsLawful pages harts hart old words place word
+  -- the number of a TVM rises by one, where no hart inside entered with a lower one
+  FencesTvm :
+      (tvm : ℕ) → 1 ≤ tvm → tvm ≤ TVM_LIMIT → place ≡ tvm_word pages harts tvm
+      → number_in pages harts words tvm < ENTRY_LIMIT → word ≡ number_in pages harts words tvm + 1
+      → ((other number : ℕ) → other < harts → HasEntered pages harts words tvm other number → number_in pages harts words tvm ≤ number)
+      → IsLawful pages harts hart old words place word
+  -- the hart enters a TVM, whose tables are owned, with its number
+  Enters :
+      (tvm root : ℕ) → hart < harts → 1 ≤ tvm → tvm ≤ TVM_LIMIT → place ≡ hart_word pages harts hart
+      → slice_index words place ≡ 0 → word ≡ 2 ^ 32 * tvm + number_in pages harts words tvm
+      → AreOwned pages words tvm root
+      → IsLawful pages harts hart old words place word
+  -- the hart leaves the TVM that it is inside
+  Leaves :
+      (tvm : ℕ) → hart < harts → place ≡ hart_word pages harts hart → IsInside pages harts words tvm hart → word ≡ 0
+      → IsLawful pages harts hart old words place word
 
 -- a test allows every store that is lawful for a hart, on whatever words
-abbrev pub AllowsLawful : (allows : List ℕ → ℕ → ℕ → Type 0) (pages harts : ℕ) (tables : ℕ → Tables) (hart : ℕ) (old : List ℕ) → Type 0
-AllowsLawful allows pages harts tables hart old =
-    (words : List ℕ) (place word : ℕ) → IsLawful pages harts tables hart old words place word → allows words place word
+abbrev pub AllowsLawful : (allows : List ℕ → ℕ → ℕ → Type 0) (pages harts : ℕ) (hart : ℕ) (old : List ℕ) → Type 0
+AllowsLawful allows pages harts hart old =
+    (words : List ℕ) (place word : ℕ) → IsLawful pages harts hart old words place word → allows words place word
 
 -- stores that are lawful for a hart, one after another, lead from words to words
-abbrev pub MakesLawful : (pages harts : ℕ) (tables : ℕ → Tables) (hart : ℕ) (old words new : List ℕ) → Type 0
-MakesLawful pages harts tables hart old words new = Leads (IsLawful pages harts tables hart old) words new
+abbrev pub MakesLawful : (pages harts : ℕ) (hart : ℕ) (old words new : List ℕ) → Type 0
+MakesLawful pages harts hart old words new = Leads (IsLawful pages harts hart old) words new

@@ -24,6 +24,8 @@ pub mod WordsStand
 pub mod LawfulStores
 pub mod WordLaws
 pub mod StoreLaw
+pub mod TableExamples
+pub mod TableLaw
 pub mod ScriptText
 pub mod LawfulCounts
 pub mod BoardRule

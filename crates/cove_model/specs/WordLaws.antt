@@ -11,7 +11,7 @@ use Rattle.cove_model.specs.States.{State, opening, shared_pages}
 use Rattle.cove_model.specs.Answers.{effect}
 use Rattle.cove_model.specs.Sound.{IsSound}
 use Rattle.cove_model.specs.WordsStand.{OwnersStand, WordsStand, FramesStand, epoch_in, answered_in, maps_of}
-use Rattle.cove_model.specs.LawfulStores.{Tables, IsLawful, IsFreeIn}
+use Rattle.cove_model.specs.LawfulStores.{IsLawful, IsFreeIn}
 
 -- no hart has answered a later epoch than the last
 abbrev pub AnswersWithin : (pages harts : ℕ) (words : List ℕ) → Type 0
@@ -140,33 +140,33 @@ ReclaimZeroesFrames =
 -- The stores of an accepted convert are lawful: its pages were the host's, and not mapped.
 abbrev pub ConvertIsLawful : Type 0
 ConvertIsLawful =
-    (pages harts : ℕ) (tables : ℕ → Tables) (words : List ℕ) (hart base n : ℕ)
+    (pages harts : ℕ) (words : List ℕ) (hart base n : ℕ)
     → base / 4096 + n ≤ pages
     → ((p : ℕ) → base / 4096 ≤ p → p < base / 4096 + n → slice_index words (page_word p) ≡ host 0)
-    → AllAllowed (IsLawful pages harts tables hart words) words (convert_stores pages words base n)
+    → AllAllowed (IsLawful pages harts hart words) words (convert_stores pages words base n)
 
 -- the stores of an accepted global fence are lawful: every hart had answered
 abbrev pub GlobalFenceIsLawful : Type 0
 GlobalFenceIsLawful =
-    (pages harts : ℕ) (tables : ℕ → Tables) (words : List ℕ) (hart : ℕ)
+    (pages harts : ℕ) (words : List ℕ) (hart : ℕ)
     → hart < harts → epoch_word pages < length words → epoch_in pages words < ENTRY_LIMIT
     → AllAnswer pages harts words
-    → AllAllowed (IsLawful pages harts tables hart words) words (global_fence_stores pages words hart)
+    → AllAllowed (IsLawful pages harts hart words) words (global_fence_stores pages words hart)
 
 -- the store of a local fence is lawful
 abbrev pub LocalFenceIsLawful : Type 0
 LocalFenceIsLawful =
-    (pages harts : ℕ) (tables : ℕ → Tables) (words : List ℕ) (hart : ℕ)
+    (pages harts : ℕ) (words : List ℕ) (hart : ℕ)
     → hart < harts
-    → AllAllowed (IsLawful pages harts tables hart words) words (local_fence_stores pages words hart)
+    → AllAllowed (IsLawful pages harts hart words) words (local_fence_stores pages words hart)
 
 -- the stores of an accepted reclaim are lawful: its pages were free
 abbrev pub ReclaimIsLawful : Type 0
 ReclaimIsLawful =
-    (pages harts : ℕ) (tables : ℕ → Tables) (words : List ℕ) (hart base n : ℕ)
+    (pages harts : ℕ) (words : List ℕ) (hart base n : ℕ)
     → base / 4096 + n ≤ pages
     → ((p : ℕ) → base / 4096 ≤ p → p < base / 4096 + n → IsFreeIn pages harts words p)
-    → AllAllowed (IsLawful pages harts tables hart words) words (reclaim_stores base n)
+    → AllAllowed (IsLawful pages harts hart words) words (reclaim_stores base n)
 
 -- the least number that a hart has answered
 abbrev pub IsFloor : (pages harts : ℕ) (words : List ℕ) (floor : ℕ) → Type 0

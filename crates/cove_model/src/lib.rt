@@ -12,6 +12,7 @@ mod rules;
 mod script_examples;
 mod script_laws;
 mod standing;
+mod table_examples;
 
 pub use examples::{
     worked_fills, worked_lines, worked_plays, worked_quiet, worked_refusals, worked_reports,
@@ -26,7 +27,8 @@ pub use laws::{
     still_rounds_are_last, translations_are_usable, unbuilt_calls_are_refused,
 };
 pub use promises::{first_failing_checks_answer, host_reads_show_host_memory};
-pub use rules::{alone_law, boundary_law, store_law};
+pub use rules::{alone_law, boundary_law, store_law, table_law};
 pub use script_examples::{refused_lines, worked_scripts};
 pub use script_laws::fronts_are_scripts;
 pub use standing::{frames_law, lawful_law, telling_law, words_law};
+pub use table_examples::worked_tables;

@@ -18,7 +18,7 @@ use Rattle.cove_model.specs.Fits.{Fits}
 use Rattle.cove_model.specs.FitsAlone.{FitsAlone}
 use Rattle.cove_model.specs.Histories.{Legal, own}
 use Rattle.cove_model.specs.LawfulCounts.{CountsEntries, IsCountable}
-use Rattle.cove_model.specs.LawfulStores.{AllowsLawful, IsLawful, no_tables}
+use Rattle.cove_model.specs.LawfulStores.{AllowsLawful, IsLawful}
 use Rattle.cove_monitor.specs.Seats.{IsKeeper, IsSeat}
 
 none_more : (xs ys : List Entry) → xs ≡ xs ++ ys → ys ≡ []
@@ -122,11 +122,11 @@ held_joined board script mon held hart keeper pass same seat kept parts monitor 
 -- ---- what a held pass allows then
 
 module _ (script : ScriptValue) (mon : Mon) (held : HartValue) (table : TableId) (m : MonitorPart) (p : HartPart) (j : AreJoined script mon held m p) where
-  pub allows_lawful : AllowsLawful (AllowsLawfulStores (Some (guard_by table m p))) script.pages script.harts no_tables held.hart m.now
+  pub allows_lawful : AllowsLawful (AllowsLawfulStores (Some (guard_by table m p))) script.pages script.harts held.hart m.now
   allows_lawful words place word lawful =
-      subst (λ (k : ScriptValue). IsLawful k.pages k.harts no_tables p.hart m.old words place word) (sym j.script_is)
-      (subst (λ h. IsLawful script.pages script.harts no_tables h m.old words place word) (sym j.same_hart)
-      (subst (λ old. IsLawful script.pages script.harts no_tables held.hart old words place word) (sym j.old) lawful))
+      subst (λ (k : ScriptValue). IsLawful k.pages k.harts p.hart m.old words place word) (sym j.script_is)
+      (subst (λ h. IsLawful script.pages script.harts h m.old words place word) (sym j.same_hart)
+      (subst (λ old. IsLawful script.pages script.harts held.hart old words place word) (sym j.old) lawful))
 
   pub counts_entries : CountsEntries (AllowsEntries (Some (guard_by table m p))) script mon.history held.hart
   counts_entries words entry countable = (
