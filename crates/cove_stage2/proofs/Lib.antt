@@ -1,6 +1,7 @@
 mod ClearLemmas
 mod EntryLemmas
 pub mod LackedLemmas
+mod LawfulLemmas
 mod LeafLemmas
 mod LinkLemmas
 mod RestLemmas

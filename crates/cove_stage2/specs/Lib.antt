@@ -1,5 +1,6 @@
 pub mod Changes
 pub mod Entries
 pub mod Lacked
+pub mod LawfulTables
 pub mod MapStores
 pub mod Walks

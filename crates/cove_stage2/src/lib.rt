@@ -8,11 +8,13 @@
 //! but `Pool::new` takes memory. It stands on `Words` alone.
 
 mod entries;
+mod laws;
 mod pools;
 mod tables;
 #[cfg(test)]
 mod tests;
 
 pub use entries::{Leaf, TableEntry, decode_entry, encode};
+pub use laws::table_stores_law;
 pub use pools::Pool;
 pub use tables::Tables;
