@@ -5,7 +5,7 @@ use Rattle.cove_base.proofs.TableLemmas.{below-absent}
 use Rattle.cove_base.proofs.TreeLemmas.{entry-stands, link-slot}
 use Rattle.cove_base.specs.HartValues.{Holding, Way}
 use Rattle.cove_base.specs.PageWords.{given}
-use Rattle.cove_base.specs.Places.{all_words, hart_word, table_word, tvm_word}
+use Rattle.cove_base.specs.Places.{all_words, count_word, hart_word, table_word, tvm_word}
 use Rattle.cove_base.specs.Rings.{found}
 use Rattle.cove_base.specs.Stores.{AllAllowed, stored}
 use Rattle.cove_base.specs.TableWords.{blocked}
@@ -14,11 +14,11 @@ use Rattle.cove_base.specs.declared.limits.TheConstants.{ENTRY_LIMIT, TVM_LIMIT}
 use Rattle.cove_base.specs.declared.numbers.Page.{Page}
 use Rattle.cove_base.specs.declared.numbers.Role.TheVariants.{Root, Table}
 use Rattle.cove_model.proofs.LeafWords.{blocked_next, blocked_none, blocked_same, none_named, present_blocked, present_next, present_none, present_same}
-use Rattle.cove_model.proofs.OwnedStores.{IsOwnPlace, leaves_apart, one_owner, one_root, owned_again, owned_store, root_word, stands_in}
+use Rattle.cove_model.proofs.OwnedStores.{IsOwnPlace, elsewhere_stored, leaves_apart, one_owner, one_root, owned_again, owned_store, root_word, stands_in}
 use Rattle.cove_model.proofs.SlotStores.{EntryMoves, below_named, entries_stay, entry_moves, next_cases}
 use Rattle.cove_model.proofs.StoreLawProofs.{lawful_within, stores_keep_fences}
 use Rattle.cove_model.specs.LawfulStores.{AreOwned, HasEntered, IsBehind, IsInside, IsLawful, Counts, Converts, Frees, Gives, TakesBack, Removes, ChangesTable, Answers, Begins, FencesTvm, Enters, Leaves, IsLeft, IsRoot, IsTableOf, TableChange, Links, Maps, Blocks, Unblocks, Unmaps, Rewrites}
-use Rattle.cove_model.specs.TableLaw.{EntersWithin, IsGuestLive, IsWayBy, ListsKeepGuests, MayReach, StoresKeepEntered, StoresKeepGuests, StoresKeepOwned, StoresKeepPresent, ZerosKeepOwned}
+use Rattle.cove_model.specs.TableLaw.{CountsKeepGuests, EntersWithin, IsGuestLive, IsWayBy, ListsKeepGuests, MayReach, StoresKeepEntered, StoresKeepGuests, StoresKeepOwned, StoresKeepPresent, ZerosKeepOwned}
 use Rattle.cove_model.specs.WordsStand.{FencesWithin, number_in}
 
 -- ---- words of harts and numbers of TVMs
@@ -334,6 +334,35 @@ pub lists_keep_guests : ListsKeepGuests
 lists_keep_guests pages harts hart old words new tvm root number other small size fences within ne leads live =
     subst (λ ws. IsGuestLive pages harts ws tvm root number other) (sym leads.2)
     (guests_from pages harts hart old leads.0 words tvm root number other small size fences within ne leads.1 live)
+
+-- the store of the count is to no word of tables, pages or harts
+pub counts_keep_guests : CountsKeepGuests
+counts_keep_guests pages harts words tvm root number other live =
+    let place = count_word pages harts in
+    let word = get_or words place 0 + 1 in
+    let none : (a : Slot) → IsSlot a → StandsAt pages root words a place → ⊥ = λ a slot at.
+    let own = stands_in pages words tvm root live.owned a place slot at in
+    let is : place ≡ table_word pages own.page own.i = own.at in
+    let below = own.below in
+    let low = own.low in
+    omega arith in
+    let same = entries_stay pages root words place word none in
+    let number_apart : hart_word pages harts other.hart ≢ place = let on = live.on_board in omega arith in
+    record {
+      low = live.low;
+      high = live.high;
+      on_board = live.on_board;
+      entered = (live.entered.0, get_or-set_other words place (hart_word pages harts other.hart) word 0 number_apart ∙ live.entered.1);
+      owned = elsewhere_stored pages words tvm root live.owned place word (omega arith) none;
+      way = λ way is.
+          let by = live.way way is in
+          record {
+            root_is = by.root_is;
+            named = λ page among. let at = by.named page among in (at.0, at.1, same at.0 (link-slot at.0 at.1) ∙ at.2);
+          };
+      fetches = λ g page named. let was = live.fetches g page named in (was.0, subst (MayReach number page.0 false) (sym (same (InLast g) was.0)) was.1);
+      accesses = λ g page named. let was = live.accesses g page named in (was.0, (was.1.0, subst (MayReach number page.0 was.1.0) (sym (same (InLast g) was.0)) was.1.1));
+    }
 
 -- ---- words that become 0
 

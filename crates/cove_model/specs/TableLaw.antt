@@ -7,6 +7,7 @@ use Rattle.cove_base.specs.TableWords.{blocked}
 use Rattle.cove_base.specs.Tables.{Slot, IsLinkSlot, entry_at, leaf_at, next_table, present}
 use Rattle.cove_base.specs.declared.limits.TheConstants.{ENTRY_LIMIT, TVM_LIMIT}
 use Rattle.cove_base.specs.declared.numbers.Page.{Page}
+use Rattle.cove_model.specs.LawfulCounts.{counted}
 use Rattle.cove_model.specs.LawfulStores.{AreOwned, HasEntered, IsInside, IsLawful, IsTableOf, MakesLawful}
 use Rattle.cove_model.specs.WordsStand.{FencesWithin, number_in}
 
@@ -87,6 +88,13 @@ ListsKeepGuests =
     → pages ≤ 2 ^ 16 → length words ≡ all_words pages harts → FencesWithin pages harts words ENTRY_LIMIT
     → EntersWithin pages harts words → other.hart ≢ hart → MakesLawful pages harts hart old words new
     → IsGuestLive pages harts words tvm root number other → IsGuestLive pages harts new tvm root number other
+
+-- So does the store of the count, for an entry of another hart.
+abbrev pub CountsKeepGuests : Type 0
+CountsKeepGuests =
+    (pages harts : ℕ) (words : List ℕ) (tvm root number : ℕ) (other : Holding)
+    → IsGuestLive pages harts words tvm root number other
+    → IsGuestLive pages harts (counted pages harts words) tvm root number other
 
 -- ---- a TVM that is being destroyed
 

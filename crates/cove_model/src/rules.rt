@@ -1,6 +1,6 @@
 ghost use Rattle.cove_model.specs.BoardRule.{CountsKeepRule, FittingHartsLive, FittingHartsUse, ListsKeepRule, LiveWalksWereRight, OpeningKeepsRule, RestingHartsLive, StoresKeepRule, StoresKeepWalks, WalksKeepRule};
 ghost use Rattle.cove_model.specs.FitsAlone.{FitsFitAlone, OthersLeaveAlone, RuledHartsFit, WalksLeaveAlone};
-ghost use Rattle.cove_model.specs.TableLaw.{ListsKeepGuests, StoresCountShared, StoresKeepEntered, StoresKeepGuests, StoresKeepOwned, StoresKeepPresent, ZerosKeepOwned};
+ghost use Rattle.cove_model.specs.TableLaw.{CountsKeepGuests, ListsKeepGuests, StoresCountShared, StoresKeepEntered, StoresKeepGuests, StoresKeepOwned, StoresKeepPresent, ZerosKeepOwned};
 
 /// The store law. While a hart is held, each lawful store that it makes, and each list of them, keeps what holds of
 /// the harts: each page that the ring of a hart names, or that its unused walk found, is one that it may use by the
@@ -15,14 +15,15 @@ pub fn store_law()
     ensures count { CountsKeepRule }
 {}
 
-/// The store law for harts inside TVMs. Each lawful store of one hart, and each list of them, keeps what every other hart
-/// inside a TVM relies on: its word, the root, the tables on its way, and each leaf that its rings may name. It keeps the
+/// The store law for harts inside TVMs. Each lawful store of one hart, each list of them, and the store of the count keeps
+/// what every other hart inside a TVM relies on: its word, the root, the tables on its way, and each leaf that its rings may name. It keeps the
 /// tables of such a TVM owned, whoever makes it, and a leaf that is present stays so, or was so at the last entry. While a
 /// TVM is destroyed its words become 0 in any order. And it says how the count of leaves that name a page as shared moves.
 /// It runs no code.
 pub fn table_law()
     ensures guests { StoresKeepGuests }
     ensures lists { ListsKeepGuests }
+    ensures count { CountsKeepGuests }
     ensures owned { StoresKeepOwned }
     ensures entered { StoresKeepEntered }
     ensures present { StoresKeepPresent }

@@ -1,4 +1,4 @@
-use Rattle.cove_model.proofs.GuestStores.{lists_keep_guests, stores_keep_entered, stores_keep_guests, stores_keep_present, zeros_keep_owned}
+use Rattle.cove_model.proofs.GuestStores.{counts_keep_guests, lists_keep_guests, stores_keep_entered, stores_keep_guests, stores_keep_present, zeros_keep_owned}
 use Rattle.cove_model.proofs.OwnedStores.{stores_keep_owned}
 use Rattle.cove_model.proofs.SharedLeaves.{stores_count_shared}
 use Rattle.cove_model.proofs.rules.table_law.Goals as goal
@@ -8,6 +8,9 @@ returns-clause-guests c = stores_keep_guests
 
 pub returns-clause-lists : goal.returns-clause-lists
 returns-clause-lists c = lists_keep_guests
+
+pub returns-clause-count : goal.returns-clause-count
+returns-clause-count c = counts_keep_guests
 
 pub returns-clause-owned : goal.returns-clause-owned
 returns-clause-owned c = stores_keep_owned
