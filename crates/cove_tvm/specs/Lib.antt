@@ -1,0 +1,4 @@
+pub mod Lives
+pub mod Slots
+pub mod TvmTables
+pub mod TvmLends
