@@ -1,1 +1,6 @@
+pub mod KeptGround
+pub mod KeptTables
+pub mod KeptTvms
+pub mod NewGround
+pub mod OwnerCalls
 mod RoomLemmas

@@ -1,7 +1,6 @@
 -- Room for TVMs, after one took its place and a pool.
-use Rattle.std.proofs.Common.{◌≡◌, ℕ, ◌+◌, ◌≤◌, List, [], ◌∷◌, ◌++◌, length, length-append, Some, subst, ap, sym, ◌∙◌, refl, arith}
+use Rattle.std.proofs.Common.{◌≡◌, ℕ, List, [], ◌∷◌, ◌++◌, length, length-append, Some, ap, arith}
 use Rattle.std.proofs.lemmas.List.Elements.{All-pop}
-use Rattle.cove_base.specs.declared.limits.TheConstants.{TVM_LIMIT}
 use Rattle.cove_stage2.specs.MapStores.{Pages}
 use Rattle.cove_tvm.specs.TvmTables.{HasRoom, IsFresh}
 use Rattle.cove_tvm.specs.declared.machines.Tvm.{Tvm}

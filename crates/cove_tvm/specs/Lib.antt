@@ -1,4 +1,11 @@
+pub mod Entered
+pub mod GroundLaws
+pub mod LeafStands
+pub mod Leaves
 pub mod Lives
 pub mod Slots
-pub mod TvmTables
+pub mod Stands
 pub mod TvmLends
+pub mod TvmStands
+pub mod TvmTables
+pub mod VcpuStands

@@ -8,11 +8,13 @@
 //! files.
 
 mod ground;
+mod laws;
 mod machines;
 mod tvms;
 mod vcpus;
 
 pub use ground::Ground;
+pub use laws::{frame_law, opening_law};
 pub use machines::{Life, Tvm};
 pub use tvms::Tvms;
 pub use vcpus::{Bound, RunState, VcpuSlot};
