@@ -3,4 +3,6 @@ pub mod KeptTables
 pub mod KeptTvms
 pub mod NewGround
 pub mod OwnerCalls
+pub mod LiveTvms
+pub mod OneTvmProofs
 mod RoomLemmas
