@@ -1,3 +1,7 @@
+pub mod BegunTvm
+pub mod CreatedTvm
+pub mod GivenPages
+pub mod GivesLawful
 pub mod KeptGround
 pub mod KeptTables
 pub mod KeptTvms

@@ -57,7 +57,8 @@ host_not_given harts epoch answered maps word t role owner is stands gives =
     let e : word ≡ host maps = subst (PageStands harts epoch answered maps word) held.1 stands in
     given_host t maps role (sym gives ∙ e)
 
-free_not_given : (harts : ℕ) (answered : ℕ → ℕ) (word t : ℕ) (role : Role) → FreeStands harts answered word → word ≢ given t role
+-- a free page is given to no TVM
+pub free_not_given : (harts : ℕ) (answered : ℕ → ℕ) (word t : ℕ) (role : Role) → FreeStands harts answered word → word ≢ given t role
 free_not_given harts answered word t role (inl is) gives = omega arith
 free_not_given harts answered word t role (inr is) gives = let e = is.1 in omega arith
 

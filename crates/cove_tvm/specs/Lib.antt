@@ -3,6 +3,7 @@ pub mod GroundLaws
 pub mod LeafStands
 pub mod Leaves
 pub mod Lives
+pub mod NewTvms
 pub mod OneTvm
 pub mod Slots
 pub mod Stands

@@ -1,6 +1,7 @@
 //! What words and ground stand for at the opening, and what leaves it.
 ghost use Rattle.cove_tvm.specs.GroundLaws.{ConvertStands, GlobalFenceStands, LocalFenceStands, OpeningStands, OwnersChangeStands, ReclaimStands};
 ghost use Rattle.cove_tvm.specs.Leaves.{LeftTvmsStand};
+ghost use Rattle.cove_tvm.specs.NewTvms.{CreateIsLawful, CreateStands};
 ghost use Rattle.cove_tvm.specs.OneTvm.{OneTvmStands};
 
 /// The law of the opening, which runs no code: words of zeros and a new ground, without a TVM, stand for the opening state.
@@ -18,4 +19,11 @@ pub fn frame_law()
     ensures global_fence { GlobalFenceStands }
     ensures local_fence { LocalFenceStands }
     ensures reclaim { ReclaimStands }
+{}
+
+/// The law of the creation of a TVM, which runs no code: words and ground stand for the state after it, and its stores are
+/// lawful, whichever harts are inside other TVMs.
+pub fn creation_law()
+    ensures stands { CreateStands }
+    ensures lawful { CreateIsLawful }
 {}

@@ -14,7 +14,7 @@ mod tvms;
 mod vcpus;
 
 pub use ground::Ground;
-pub use laws::{frame_law, opening_law};
+pub use laws::{creation_law, frame_law, opening_law};
 pub use machines::{Life, Tvm};
 pub use tvms::Tvms;
 pub use vcpus::{Bound, RunState, VcpuSlot};
