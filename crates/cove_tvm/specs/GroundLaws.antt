@@ -15,22 +15,22 @@ use Rattle.cove_tvm.specs.Stands.{Stands}
 use Rattle.cove_tvm.specs.declared.ground.Ground.{Ground}
 
 -- the ground of a script's board before any call: no TVM, no kick, the frames of the opening memory
-pub record IsNewGround (script : ScriptValue) (ground : Ground) : Type 0 where
-  pub pages : ground.pages ≡ script.pages
-  pub harts : ground.harts ≡ script.harts
-  pub filecount : ground.filecount ≡ script.files
-  pub key : ground.key ≡ script.key
-  pub no_tvm : ground.tvms ≡ record { pages = script.pages; tvms = [] }
-  pub no_kick : ground.kicked ≡ 0
-  pub file_harts : ground.files.harts ≡ script.harts
-  pub file_count : ground.files.files ≡ script.files
-  pub frames : FramesStand ground.memory (opening script)
+pub record IsNewGround (script : ScriptValue) (G : Ground) : Type 0 where
+  pub pages : G.pages ≡ script.pages
+  pub harts : G.harts ≡ script.harts
+  pub filecount : G.filecount ≡ script.files
+  pub key : G.key ≡ script.key
+  pub no_tvm : G.tvms ≡ record { pages = script.pages; tvms = [] }
+  pub no_kick : G.kicked ≡ 0
+  pub file_harts : G.files.harts ≡ script.harts
+  pub file_count : G.files.files ≡ script.files
+  pub frames : FramesStand G.memory (opening script)
 
 -- such a ground and words of zeros stand for the opening
 abbrev pub OpeningStands : Type 0
 OpeningStands =
-    (script : ScriptValue) (ground : Ground) → IsNewGround script ground
-    → Stands (replicate (all_words script.pages script.harts) 0) ground (opening script)
+    (script : ScriptValue) (G : Ground) → IsNewGround script G
+    → Stands (replicate (all_words script.pages script.harts) 0) G (opening script)
 
 -- two states have the same TVMs, seats, kicks, key and files
 pub record KeepsTvms (S T : State) : Type 0 where
@@ -44,38 +44,38 @@ pub record KeepsTvms (S T : State) : Type 0 where
 -- New words and frames, of another state with the same TVMs, stand where they leave every TVM.
 abbrev pub OwnersChangeStands : Type 0
 OwnersChangeStands =
-    (words new : List ℕ) (ground : Ground) (frames : List (List ℕ)) (S T : State)
-    → Stands words ground S → KeepsTvms S T → LeavesEveryTvm ground.pages ground.harts words new
-    → Stand ground.pages ground.harts new T → FramesStand frames T
-    → Stands new (record ground { memory = frames }) T
+    (words new : List ℕ) (G : Ground) (frames : List (List ℕ)) (S T : State)
+    → Stands words G S → KeepsTvms S T → LeavesEveryTvm G.pages G.harts words new
+    → Stand G.pages G.harts new T → FramesStand frames T
+    → Stands new (record G { memory = frames }) T
 
 -- an accepted convert
 abbrev pub ConvertStands : Type 0
 ConvertStands =
-    (words : List ℕ) (ground : Ground) (S : State) (hart base n : ℕ)
-    → 0 < ground.harts → base / 4096 + n ≤ ground.pages → every is_host (base / 4096) n S.pages ≡ true
-    → Stands words ground S
-    → Stands (stored words (convert_stores ground.pages words base n)) ground (effect S hart (Convert base n))
+    (words : List ℕ) (G : Ground) (S : State) (hart base n : ℕ)
+    → 0 < G.harts → base / 4096 + n ≤ G.pages → every is_host (base / 4096) n S.pages ≡ true
+    → Stands words G S
+    → Stands (stored words (convert_stores G.pages words base n)) G (effect S hart (Convert base n))
 
 -- an accepted global fence
 abbrev pub GlobalFenceStands : Type 0
 GlobalFenceStands =
-    (words : List ℕ) (ground : Ground) (S : State) (hart : ℕ)
-    → hart < ground.harts → AllAnswer ground.pages ground.harts words → Stands words ground S
-    → Stands (stored words (global_fence_stores ground.pages words hart)) ground (effect S hart GlobalFence)
+    (words : List ℕ) (G : Ground) (S : State) (hart : ℕ)
+    → hart < G.harts → AllAnswer G.pages G.harts words → Stands words G S
+    → Stands (stored words (global_fence_stores G.pages words hart)) G (effect S hart GlobalFence)
 
 -- a local fence
 abbrev pub LocalFenceStands : Type 0
 LocalFenceStands =
-    (words : List ℕ) (ground : Ground) (S : State) (hart : ℕ)
-    → hart < ground.harts → Stands words ground S
-    → Stands (stored words (local_fence_stores ground.pages words hart)) ground (effect S hart LocalFence)
+    (words : List ℕ) (G : Ground) (S : State) (hart : ℕ)
+    → hart < G.harts → Stands words G S
+    → Stands (stored words (local_fence_stores G.pages words hart)) G (effect S hart LocalFence)
 
 -- an accepted reclaim, after which the frames of its pages are zeros
 abbrev pub ReclaimStands : Type 0
 ReclaimStands =
-    (words : List ℕ) (ground : Ground) (S : State) (hart base n : ℕ)
-    → base / 4096 + n ≤ ground.pages → every is_free (base / 4096) n S.pages ≡ true
-    → IsSound S → Stands words ground S
-    → Stands (stored words (reclaim_stores base n)) (record ground { memory = zeroed ground.memory (base / 4096) n })
+    (words : List ℕ) (G : Ground) (S : State) (hart base n : ℕ)
+    → base / 4096 + n ≤ G.pages → every is_free (base / 4096) n S.pages ≡ true
+    → IsSound S → Stands words G S
+    → Stands (stored words (reclaim_stores base n)) (record G { memory = zeroed G.memory (base / 4096) n })
     (effect S hart (Reclaim base n))

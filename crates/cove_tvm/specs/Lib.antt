@@ -1,4 +1,5 @@
 pub mod Entered
+pub mod Examples
 pub mod GroundLaws
 pub mod LeafStands
 pub mod Leaves

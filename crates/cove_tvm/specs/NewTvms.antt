@@ -39,16 +39,16 @@ pub record MayCreate (pages root state : ℕ) (S : MonitorState) : Type 0 where
 -- after an accepted creation
 abbrev pub CreateStands : Type 0
 CreateStands =
-    (words : List ℕ) (ground : Ground) (S : MonitorState) (hart root state : ℕ) (tvm : Tvm)
-    → Stands words ground S → IsOrderly S → IsSeated S → FencesWithin ground.pages ground.harts words ENTRY_LIMIT
-    → MayCreate ground.pages root state S → IsNewTvm ground.pages (root / 4096) (state / 4096) tvm
-    → Stands (stored words (create_stores (S.made + 1) root state)) (record ground { tvms = with_new ground.tvms tvm })
+    (words : List ℕ) (G : Ground) (S : MonitorState) (hart root state : ℕ) (tvm : Tvm)
+    → Stands words G S → IsOrderly S → IsSeated S → FencesWithin G.pages G.harts words ENTRY_LIMIT
+    → MayCreate G.pages root state S → IsNewTvm G.pages (root / 4096) (state / 4096) tvm
+    → Stands (stored words (create_stores (S.made + 1) root state)) (record G { tvms = with_new G.tvms tvm })
     (effect S hart (Create root state))
 
 -- and its stores are lawful
 abbrev pub CreateIsLawful : Type 0
 CreateIsLawful =
-    (words : List ℕ) (ground : Ground) (S : MonitorState) (hart root state : ℕ)
-    → Stands words ground S → IsSeated S → FencesWithin ground.pages ground.harts words ENTRY_LIMIT
-    → MayCreate ground.pages root state S
-    → AllAllowed (IsLawful ground.pages ground.harts hart words) words (create_stores (S.made + 1) root state)
+    (words : List ℕ) (G : Ground) (S : MonitorState) (hart root state : ℕ)
+    → Stands words G S → IsSeated S → FencesWithin G.pages G.harts words ENTRY_LIMIT
+    → MayCreate G.pages root state S
+    → AllAllowed (IsLawful G.pages G.harts hart words) words (create_stores (S.made + 1) root state)

@@ -12,23 +12,23 @@ use Rattle.cove_tvm.specs.TvmTables.{live_at}
 use Rattle.cove_tvm.specs.declared.ground.Ground.{Ground}
 
 -- what the ground has beside frames and TVMs: the key, the kicks, and the sizes of the board
-pub record BoardStands (ground : Ground) (S : State) : Type 0 where
-  pub key : ground.key ≡ S.key
-  pub kicked : (hart : ℕ) → hart < ground.harts → (bit_at ground.kicked hart == 1) ≡ has hart S.kicked
-  pub filecount : ground.filecount ≡ S.files
-  pub file_harts : ground.files.harts ≡ ground.harts
-  pub file_count : ground.files.files ≡ ground.filecount
-  pub tvm_pages : ground.tvms.pages ≡ ground.pages
-  pub made : length ground.tvms.tvms ≡ S.made
+pub record BoardStands (G : Ground) (S : State) : Type 0 where
+  pub key : G.key ≡ S.key
+  pub kicked : (hart : ℕ) → hart < G.harts → (bit_at G.kicked hart == 1) ≡ has hart S.kicked
+  pub filecount : G.filecount ≡ S.files
+  pub file_harts : G.files.harts ≡ G.harts
+  pub file_count : G.files.files ≡ G.filecount
+  pub tvm_pages : G.tvms.pages ≡ G.pages
+  pub made : length G.tvms.tvms ≡ S.made
   pub few : S.made ≤ TVM_LIMIT
 
 -- Words and ground stand for a state: the words and the frames do, each TVM does by its number, and each page is named by as
 -- many shared leaves as the state has mappings of it.
-pub record Stands (words : List ℕ) (ground : Ground) (S : State) : Type 0 where
-  pub words_stand : Stand ground.pages ground.harts words S
-  pub frames : FramesStand ground.memory S
-  pub board : BoardStands ground S
+pub record Stands (words : List ℕ) (G : Ground) (S : State) : Type 0 where
+  pub words_stand : Stand G.pages G.harts words S
+  pub frames : FramesStand G.memory S
+  pub board : BoardStands G S
   pub tvm :
       (t : ℕ)
-      → TvmStands ground.pages ground.harts words t S.seats ground.files (live_at ground.tvms t) (find_tvm S t)
-  pub counted : (p : ℕ) → p < ground.pages → shared_leaves ground.pages words p ≡ maps_of S p
+      → TvmStands G.pages G.harts words t S.seats G.files (live_at G.tvms t) (find_tvm S t)
+  pub counted : (p : ℕ) → p < G.pages → shared_leaves G.pages words p ≡ maps_of S p

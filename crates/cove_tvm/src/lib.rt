@@ -7,14 +7,21 @@
 //! on the definitions of `cove_model`, on the tables over words of `cove_stage2`, and on regions, registers and interrupt
 //! files.
 
+mod examples;
 mod ground;
 mod laws;
 mod machines;
 mod tvms;
 mod vcpus;
 
+pub use examples::{
+    worked_creation, worked_harts, worked_leaves, worked_leaving, worked_numbers, worked_standing,
+};
 pub use ground::Ground;
 pub use laws::{creation_law, frame_law, opening_law};
 pub use machines::{Life, Tvm};
 pub use tvms::Tvms;
 pub use vcpus::{Bound, RunState, VcpuSlot};
+
+#[cfg(test)]
+mod tests;

@@ -1,0 +1,65 @@
+//! Worked examples, which the checker computes: what each definition of this crate says yes to, and what it says no to.
+
+ghost use Rattle.std.specs.Prelude.{◌≡◌, ◌<◌, ℕ, List, [], ◌∷◌, Some, None, false, true, slice_index};
+ghost use Rattle.cove_base.specs.PageWords.{given, released};
+ghost use Rattle.cove_base.specs.Tables.{present};
+ghost use Rattle.cove_base.specs.declared.numbers.Role.TheVariants.{Root};
+ghost use Rattle.cove_model.specs.States.{State};
+ghost use Rattle.cove_tvm.specs.Entered.{WaitsSince, entered_below};
+ghost use Rattle.cove_tvm.specs.Examples.{just, nine_free, own_five, two_inside};
+ghost use Rattle.cove_tvm.specs.LeafStands.{LeafStands};
+ghost use Rattle.cove_tvm.specs.Leaves.{LeavesEveryTvm, LeavesTvm};
+ghost use Rattle.cove_tvm.specs.NewTvms.{MayCreate, create_stores};
+ghost use Rattle.cove_tvm.specs.Stands.{Stands};
+ghost use Rattle.cove_tvm.specs.TvmTables.{live_at};
+ghost use Rattle.cove_tvm.specs.declared.ground.Ground.{Ground};
+ghost use Rattle.cove_tvm.specs.declared.machines.Life.TheVariants.{Gone, Runnable};
+ghost use Rattle.cove_tvm.specs.declared.machines.Tvm.{Tvm};
+
+/// A TVM is live by its number until it is destroyed; no TVM has the number 0.
+pub fn worked_numbers()
+    ensures live { (tvm : Tvm) → tvm.life ≡ Runnable → live_at (just tvm) 1 ≡ Some tvm }
+    ensures gone { (tvm : Tvm) → tvm.life ≡ Gone → live_at (just tvm) 1 ≡ None }
+    ensures zero { (tvm : Tvm) → live_at (just tvm) 0 ≡ None }
+    ensures other { (tvm : Tvm) → live_at (just tvm) 2 ≡ None }
+{}
+
+/// Of two harts inside, the one that is inside TVM 1 entered with the number 3, and what began to wait then waits for it.
+pub fn worked_harts()
+    ensures inside { entered_below 0 2 two_inside 1 4 ≡ 0 ∷ [] }
+    ensures later { entered_below 0 2 two_inside 1 3 ≡ [] }
+    ensures waits { WaitsSince 0 2 two_inside 1 3 (Some (0 ∷ [])) }
+    ensures for_nobody { WaitsSince 0 2 two_inside 1 3 (Some []) → ⊥ }
+    ensures not_known { WaitsSince 0 2 two_inside 1 3 None → ⊥ }
+{}
+
+/// A mapping of a page of the TVM's own has its private leaf, and a guest page without a mapping has none.
+pub fn worked_leaves()
+    ensures own { (words : List ℕ) → LeafStands 9 1 words 1 (present 5 false) (Some own_five) }
+    ensures shared { (words : List ℕ) → LeafStands 9 1 words 1 (present 5 true) (Some own_five) → ⊥ }
+    ensures past_the_board { (words : List ℕ) → LeafStands 5 1 words 1 (present 5 false) (Some own_five) → ⊥ }
+    ensures none { (words : List ℕ) → LeafStands 9 1 words 1 0 None }
+    ensures lost { (words : List ℕ) → LeafStands 9 1 words 1 0 (Some own_five) → ⊥ }
+{}
+
+/// The same words leave every TVM; words in which its root page was taken back do not.
+pub fn worked_leaving()
+    ensures same { (words : List ℕ) → LeavesEveryTvm 1 1 words words }
+    ensures same_for_one { (words : List ℕ) (t : ℕ) → LeavesTvm 1 1 words words t }
+    ensures taken { (old new : List ℕ) → slice_index old 0 ≡ given 1 Root → slice_index new 0 ≡ released
+        → LeavesTvm 1 1 old new 1 → ⊥ }
+{}
+
+/// A ground with a live TVM stands for no state without one.
+pub fn worked_standing()
+    ensures live { (words : List ℕ) (G : Ground) (S : State) (tvm : Tvm) → S.tvms ≡ []
+        → live_at G.tvms 1 ≡ Some tvm → Stands words G S → ⊥ }
+{}
+
+/// A TVM is created of four root pages and a state page that is none of them.
+pub fn worked_creation()
+    ensures stores { create_stores 1 0x4000 0x8000 ≡ (4, 66) ∷ (5, 66) ∷ (6, 66) ∷ (7, 66) ∷ (8, 74) ∷ [] }
+    ensures may { MayCreate 9 0x4000 0x8000 nine_free }
+    ensures not_apart { MayCreate 9 0x4000 0x7000 nine_free → ⊥ }
+    ensures past_the_board { MayCreate 8 0x4000 0x8000 nine_free → ⊥ }
+{}
