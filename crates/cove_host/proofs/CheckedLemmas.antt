@@ -1,0 +1,57 @@
+-- What checks in their order answer.
+use Rattle.std.proofs.Common.{◌≡◌, ◌∙◌, Bool, true, false, cond, List, [], ◌∷◌, Option, Some, None, Result, Ok, Err, refl, sym, ap, arith}
+use Rattle.cove_base.specs.declared.statuses.Reply.{Reply}
+use Rattle.cove_host.specs.Checked.{all_checked, checked}
+use Rattle.cove_model.specs.Refusals.{Check, first_failing}
+
+-- the answer of a test that fails, and what comes after one that passes
+abbrev pub Answer : Type 0
+Answer = Result (Unit {0}) Reply
+
+abbrev tested : Bool → Reply → Answer → Answer
+tested b reply rest = cond b (Err reply) rest
+
+abbrev passed : Answer
+passed = Ok tt
+
+passing : (b : Bool) (reply : Reply) (rest : Answer) (u : Unit {0}) → tested b reply passed ≡ Ok u → tested b reply rest ≡ rest
+passing true reply rest u e = absurd cc
+passing false reply rest u e = refl
+
+failing : (b : Bool) (reply said : Reply) (rest : Answer) → tested b reply passed ≡ Err said → tested b reply rest ≡ Err said
+failing true reply said rest e = e
+failing false reply said rest e = absurd cc
+
+passed_first : (b : Bool) (reply : Reply) (rest : Answer) (u : Unit {0}) → tested b reply rest ≡ Ok u → (b ≡ false) × (rest ≡ Ok u)
+passed_first true reply rest u e = absurd cc
+passed_first false reply rest u e = (refl, e)
+
+failed_first : (b : Bool) (reply said : Reply) (rest : Answer) (found : Option Reply) → (rest ≡ Err said → found ≡ Some said) → tested b reply rest ≡ Err said → cond b (Some reply) found ≡ Some said
+failed_first true reply said rest found more e = grind arith
+failed_first false reply said rest found more e = more e
+
+-- a check that passes leaves the answer to those after it
+pub passes : (check : Check) (rest : List Check) (r : Answer) (u : Unit {0}) → r ≡ checked check → r ≡ Ok u → all_checked (check ∷ rest) ≡ all_checked rest
+passes check rest r u is ok = passing check.fails (record { status = check.status; value = check.value }) (all_checked rest) u (sym is ∙ ok)
+
+-- and one that fails answers
+pub fails : (check : Check) (rest : List Check) (r : Answer) (reply : Reply) → r ≡ checked check → r ≡ Err reply → all_checked (check ∷ rest) ≡ Err reply
+fails check rest r reply is err = failing check.fails (record { status = check.status; value = check.value }) reply (all_checked rest) (sym is ∙ err)
+
+-- where all pass, the first does, and so do the rest
+pub first_passes : (check : Check) (rest : List Check) (u : Unit {0}) → all_checked (check ∷ rest) ≡ Ok u → (check.fails ≡ false) × (all_checked rest ≡ Ok u)
+first_passes check rest u e = passed_first check.fails (record { status = check.status; value = check.value }) (all_checked rest) u e
+
+-- where all pass, none is the first that fails
+pub none_fails : (checks : List Check) (u : Unit {0}) → all_checked checks ≡ Ok u → first_failing checks ≡ None
+none_fails [] u e = refl
+none_fails (check ∷ checks) u e =
+    let both = first_passes check checks u e in
+    let reply : Reply = record { status = check.status; value = check.value } in
+    ap (λ b. cond b (Some reply) (first_failing checks)) both.0 ∙ none_fails checks u both.1
+
+-- where one answers, it is the first that fails
+pub one_fails : (checks : List Check) (reply : Reply) → all_checked checks ≡ Err reply → first_failing checks ≡ Some reply
+one_fails [] reply e = absurd cc
+one_fails (check ∷ checks) reply e =
+    failed_first check.fails (record { status = check.status; value = check.value }) reply (all_checked checks) (first_failing checks) (one_fails checks reply) e

@@ -1,0 +1,4 @@
+mod CheckedLemmas
+mod Creating
+mod FreePages
+mod ReadyWords

@@ -1,0 +1,79 @@
+//! The checks of calls, each once for every call that has it.
+
+ghost use Rattle.std.specs.Prelude.{◌≡◌, ◌+◌, ◌/◌, ◌≤◌, ℕ, List, OnOk};
+ghost use Rattle.cove_base.specs.Unchanged.{Unchanged};
+ghost use Rattle.cove_host.specs.Called.{IsReady};
+ghost use Rattle.cove_host.specs.Checked.{checked};
+ghost use Rattle.cove_model.specs.Checks.{AllFree, Inside, RoomForTvm, RootAligned, StateApart};
+ghost use Rattle.cove_model.specs.Refusals.{Aligned, plain};
+ghost use Rattle.cove_model.specs.States.{State};
+ghost use Rattle.cove_tvm.specs.Stands.{Stands};
+
+use cove_base::{Page, PageRange, Reply, Status, TVM_LIMIT, Words, epoch_word};
+use cove_fence::Epochs;
+use cove_owner::all_free;
+use cove_tvm::Ground;
+
+/// Another TVM may be created.
+pub(crate) fn room_for_tvm(g: &Ground) -> Result<(), Reply>
+    ensures told { (words : List ℕ) (S : State) → Stands words g.now S → result ≡ checked (RoomForTvm S) }
+{
+    check(g.tvms.made() >= TVM_LIMIT, Status::Failed)
+}
+
+/// The root begins at a multiple of its size.
+pub(crate) fn root_aligned(root: u64) -> Result<(), Reply>
+    ensures { result ≡ checked (RootAligned root) }
+{
+    check(root % 16384 != 0, Status::InvalidAddress)
+}
+
+/// An address is a multiple of the page size.
+pub(crate) fn aligned(address: u64) -> Result<(), Reply>
+    ensures { result ≡ checked (Aligned address) }
+{
+    check(address % 4096 != 0, Status::InvalidAddress)
+}
+
+/// The pages are within the memory.
+pub(crate) fn inside(g: &Ground, base: u64, n: u64) -> Result<(), Reply>
+    requires { n ≤ 16 }
+    ensures told { (words : List ℕ) (S : State) → Stands words g.now S → result ≡ checked (Inside S base n) }
+    ensures within { OnOk result (base / 4096 + n ≤ g.now.pages) }
+{
+    check(base / 4096 + n > u64::from(g.pages), Status::InvalidAddress)
+}
+
+/// The state page is none of the root's.
+pub(crate) fn state_apart(root: u64, state: u64) -> Result<(), Reply>
+    ensures { result ≡ checked (StateApart root state) }
+{
+    let first = root / 4096;
+    let page = state / 4096;
+    check(first <= page && page < first + 4, Status::InvalidAddress)
+}
+
+/// Every page is free.
+pub(crate) fn free<W: Words>(w: &mut W, g: &Ground, base: u64, n: u64) -> Result<(), Reply>
+    requires ready { IsReady (W.words w.old) g.now }
+    requires inside { base / 4096 + n ≤ g.now.pages }
+    ensures told { (S : State) → Stands (W.words w.old) g.now S → result ≡ checked (AllFree S base n) }
+    ensures unchanged { Unchanged W.words W.clean W.guard w.old w.new }
+{
+    let range = PageRange {
+        first: Page((base / 4096) as u32),
+        count: n as u32,
+    };
+    let floor = Epochs::new(epoch_word(g.pages), g.harts).floor(w);
+    check(!all_free(w, range, floor), Status::InvalidAddress)
+}
+
+// Answers a check that fails.
+fn check(fails: bool, status: Status) -> Result<(), Reply>
+    ensures { result ≡ checked (plain fails status) }
+{
+    if fails {
+        return Err(Reply { status, value: 0 });
+    }
+    Ok(())
+}
