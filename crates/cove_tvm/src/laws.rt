@@ -2,7 +2,7 @@
 ghost use Rattle.cove_tvm.specs.GroundLaws.{ConvertStands, GlobalFenceStands, LocalFenceStands, OpeningStands, OwnersChangeStands, ReclaimStands};
 ghost use Rattle.cove_tvm.specs.Leaves.{LeftTvmsStand};
 ghost use Rattle.cove_tvm.specs.NewTvms.{CreateIsLawful, CreateStands};
-ghost use Rattle.cove_tvm.specs.OneTvm.{OneTvmStands};
+ghost use Rattle.cove_tvm.specs.OneTvm.{FieldsChangeStand, OneTvmStands};
 
 /// The law of the opening, which runs no code: words of zeros and a new ground, without a TVM, stand for the opening state.
 pub fn opening_law()
@@ -10,10 +10,11 @@ pub fn opening_law()
 {}
 
 /// The law of what leaves TVMs, which runs no code: words that leave a TVM's pages, tables and harts leave it standing; so does
-/// a call on one other TVM, a change of owners, and each accepted call on owners.
+/// a call on one other TVM, a change of one TVM's fields, a change of owners, and each accepted call on owners.
 pub fn frame_law()
     ensures tvm { LeftTvmsStand }
     ensures one { OneTvmStands }
+    ensures fields { FieldsChangeStand }
     ensures owners { OwnersChangeStands }
     ensures convert { ConvertStands }
     ensures global_fence { GlobalFenceStands }

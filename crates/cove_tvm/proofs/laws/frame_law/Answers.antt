@@ -1,3 +1,4 @@
+use Rattle.cove_tvm.proofs.ChangedFields.{fields_change_stand}
 use Rattle.cove_tvm.proofs.KeptGround.{owners_change_stands}
 use Rattle.cove_tvm.proofs.KeptTvms.{left_tvms_stand}
 use Rattle.cove_tvm.proofs.OneTvmProofs.{one_tvm_stands}
@@ -9,6 +10,9 @@ returns-clause-tvm c = left_tvms_stand
 
 pub returns-clause-one : goal.returns-clause-one
 returns-clause-one c = one_tvm_stands
+
+pub returns-clause-fields : goal.returns-clause-fields
+returns-clause-fields c = fields_change_stand
 
 pub returns-clause-owners : goal.returns-clause-owners
 returns-clause-owners c = owners_change_stands

@@ -1,0 +1,138 @@
+-- Words and ground stand after fields of one TVM changed.
+use Rattle.std.proofs.Common.{◌≡◌, ℕ, suc, ◌==◌, ◌∙◌, Bool, true, false, cond, eqb, List, [], count_by, get_or, length-set, Option, Some, None, option_map, refl, sym, ap, subst, inl, inr, arith}
+use Rattle.std.proofs.Math.Path.{fun_ext}
+use Rattle.std.proofs.lemmas.Bool.{cases_eq}
+use Rattle.std.proofs.lemmas.List.Folds.{flat_map-map}
+use Rattle.std.specs.Prelude.{filter_map, flat_map, option_and_then, unwrap_or}
+use Rattle.cove_model.proofs.KeyedLemmas.{at_alter_other, at_alter_same}
+use Rattle.cove_model.specs.Keyed.{at}
+use Rattle.cove_model.specs.Mappings.{mapping_of, own_words}
+use Rattle.cove_model.specs.Owners.{AsRoot, AsState, AsTable, AsVcpu, AsData, Converting, Free, Given, Host, Owner, page_at}
+use Rattle.cove_model.specs.States.{State, find_tvm, on_tvm, shown_page}
+use Rattle.cove_model.specs.Tvms.{Tvm as ModelTvm, new_tvm}
+use Rattle.cove_model.specs.WordLaws.{Stand}
+use Rattle.cove_model.specs.WordsStand.{FrameStands, FramesStand, PageStands, answered_in, epoch_in, maps_of, words_at}
+use Rattle.cove_tvm.proofs.KeptGround.{live_made}
+use Rattle.cove_tvm.proofs.LiveTvms.{written_elsewhere, written_here}
+use Rattle.cove_tvm.proofs.OneTvmProofs.{one_tvm_stands}
+use Rattle.cove_tvm.specs.Leaves.{LeavesTvm}
+use Rattle.cove_tvm.specs.OneTvm.{FieldsChangeStand, KeepsMappings}
+use Rattle.cove_tvm.specs.TvmLends.{with_tvm}
+use Rattle.cove_tvm.specs.TvmStands.{TvmStands}
+use Rattle.cove_tvm.specs.TvmTables.{live_at}
+
+-- the same words leave every TVM
+pub leaves_same : (pages harts t : ℕ) (words : List ℕ) → LeavesTvm pages harts words words t
+leaves_same pages harts t words = record {
+  size = refl;
+  page = λ p role on. (λ gives. gives, λ gives. gives);
+  table = λ p i on low own. refl;
+  number = refl;
+  inside = λ number hart on. refl;
+}
+
+module _ (S : State) (t : ℕ) (how : ModelTvm → ModelTvm) (keeps : KeepsMappings how) where
+  abbrev shown : ModelTvm → List ℕ
+  shown tvm = filter_map (λ mapping. shown_page mapping.backing) tvm.mappings
+
+  shown_same : (tvm : ModelTvm) → shown (cond (eqb tvm.number t) (how tvm) tvm) ≡ shown tvm
+  shown_same tvm = go (eqb tvm.number t)
+    where
+      go : (b : Bool) → shown (cond b (how tvm) tvm) ≡ shown tvm
+      go true = ap (filter_map (λ mapping. shown_page mapping.backing)) (keeps.mappings tvm)
+      go false = refl
+
+  -- the same pages are mapped as often
+  pub maps_changed : (p : ℕ) → maps_of (on_tvm t how S) p ≡ maps_of S p
+  maps_changed p =
+      ap (count_by (λ q. q == p))
+      (flat_map-map shown (λ tvm. cond (eqb tvm.number t) (how tvm) tvm) S.tvms
+      ∙ ap (λ f. flat_map f S.tvms) (fun_ext shown_same))
+
+  abbrev words_by : (u g : ℕ) → Option ModelTvm → Option (List ℕ)
+  words_by u g found = option_and_then (λ mapping. own_words mapping.backing) (mapping_of (unwrap_or found (new_tvm u)) g)
+
+  words_how : (u g : ℕ) (found : Option ModelTvm) → words_by u g (option_map how found) ≡ words_by u g found
+  words_how u g None = refl
+  words_how u g (Some v) =
+      ap (λ ms. option_and_then (λ mapping. own_words mapping.backing) (at (λ mapping. mapping.guest) g ms)) (keeps.mappings v)
+
+  -- and guest pages have the same words
+  pub words_changed : (u g : ℕ) → words_at (on_tvm t how S) u g ≡ words_at S u g
+  words_changed u g = elim (cases_eq u t) [
+    | inl own ↦ subst (λ n. words_at (on_tvm t how S) n g ≡ words_at S n g) (sym own)
+        (ap (words_by t g) (at_alter_same (λ tvm. tvm.number) t how keeps.number S.tvms) ∙ words_how t g (find_tvm S t))
+    | inr other ↦ ap (words_by u g) (at_alter_other (λ tvm. tvm.number) u t how keeps.number other S.tvms)
+  ]
+
+  frame_changed : (frame : List ℕ) (o : Owner) → FrameStands S frame o → FrameStands (on_tvm t how S) frame o
+  frame_changed frame (Host words) stands = stands
+  frame_changed frame (Converting held waiting words) stands = stands
+  frame_changed frame Free stands = tt
+  frame_changed frame (Given u AsRoot) stands = tt
+  frame_changed frame (Given u AsState) stands = tt
+  frame_changed frame (Given u AsTable) stands = tt
+  frame_changed frame (Given u AsVcpu) stands = tt
+  frame_changed frame (Given u (AsData g)) stands = words_changed u g ∙ stands
+
+  pub frames_changed : (frames : List (List ℕ)) → FramesStand frames S → FramesStand frames (on_tvm t how S)
+  frames_changed frames stands = record {
+    count = stands.count;
+    frame = λ p on. frame_changed (get_or frames p []) (page_at S.pages p) (stands.frame p on);
+  }
+
+  pub words_stand_still : (pages harts : ℕ) (words : List ℕ) → Stand pages harts words S → Stand pages harts words (on_tvm t how S)
+  words_stand_still pages harts words stand =
+      let old = stand.stands in
+      record {
+        stands = record {
+          size = old.size;
+          owners = record {
+            page_count = old.owners.page_count;
+            hart_count = old.owners.hart_count;
+            page = λ p on. subst (λ maps. PageStands harts (epoch_in pages words) (answered_in pages words) maps (get_or words p 0) (page_at S.pages p))
+                (sym (maps_changed p)) (old.owners.page p on);
+            unanswered = old.owners.unanswered;
+          };
+          tables = old.tables;
+          unused = old.unused;
+          seats = old.seats;
+        };
+        within = stand.within;
+      }
+
+pub fields_change_stand : FieldsChangeStand
+fields_change_stand k words G S how old new v stands keeps live found stays own =
+    one_tvm_stands (suc k) words words G G.memory (with_tvm G.tvms k new) S (on_tvm (suc k) how S) stands
+    (record {
+      words_leave = λ u other few. leaves_same G.pages G.harts u words;
+      same_live = λ u other. written_elsewhere G.tvms k new u other;
+      same_state = λ u other. at_alter_other (λ tvm. tvm.number) u (suc k) how keeps.number other S.tvms;
+      seats = refl;
+    })
+    (record {
+      words_stand = words_stand_still S (suc k) how keeps G.pages G.harts words stands.words_stand;
+      frames_stand = frames_changed S (suc k) how keeps G.memory stands.frames;
+      board = record {
+        key = stands.board.key;
+        kicked = stands.board.kicked;
+        filecount = stands.board.filecount;
+        file_harts = stands.board.file_harts;
+        file_count = stands.board.file_count;
+        tvm_pages = stands.board.tvm_pages;
+        made = length-set G.tvms.tvms k new ∙ stands.board.made;
+        few = stands.board.few;
+      };
+      own =
+          subst (λ one. TvmStands G.pages G.harts words (suc k) S.seats G.files one (find_tvm (on_tvm (suc k) how S) (suc k))) (sym live_is)
+          (subst (TvmStands G.pages G.harts words (suc k) S.seats G.files (Some new)) (sym found_is) own);
+      counted = λ p on. stands.counted p on ∙ sym (maps_changed S (suc k) how keeps p);
+    })
+  where
+    live_is : live_at (with_tvm G.tvms k new) (suc k) ≡ Some new
+    live_is =
+        let low = live_made G.tvms (suc k) old live in
+        written_here G.tvms k new (omega arith) ∙ ap (λ b. cond b None (Some new)) stays
+
+    found_is : find_tvm (on_tvm (suc k) how S) (suc k) ≡ Some (how v)
+    found_is = at_alter_same (λ tvm. tvm.number) (suc k) how keeps.number S.tvms ∙ ap (option_map how) found
