@@ -6,7 +6,7 @@ use Rattle.cove_base.specs.PageWords.{given}
 use Rattle.cove_base.specs.Places.{count_word, epoch_word, tvm_word}
 use Rattle.cove_base.specs.Stores.{AllAllowed, fills, stored}
 use Rattle.cove_base.specs.declared.calls.HostCall.{HostCall}
-use Rattle.cove_base.specs.declared.calls.HostCall.TheVariants.{Create}
+use Rattle.cove_base.specs.declared.calls.HostCall.TheVariants.{Create, Info}
 use Rattle.cove_base.specs.declared.limits.TheConstants.{ENTRY_LIMIT, TVM_LIMIT}
 use Rattle.cove_base.specs.declared.numbers.Role.TheVariants.{Root, State}
 use Rattle.cove_base.specs.declared.statuses.Reply.{Reply}
@@ -108,6 +108,17 @@ pub refuses : (hart : ℕ) (call : HostCall) (words : List ℕ) (G : Ground) (re
     → ((S : MonitorState) → Stands words G S → Err reply ≡ all_checked (rule S hart call).checks) → Called hart call words words G G reply
 refuses hart call words G reply each = record {
   serves = λ S met stands. rw (one_fails (rule S hart call).checks reply (sym (each S stands))) (refl, stands);
+  lawful = ([], tt, refl);
+  refused = λ e. (refl, refl);
+  fences = λ most within. stays_within G.pages G.harts words words most (λ at past. refl) within;
+  count = refl;
+  size = refl;
+}
+
+-- a call for the monitor's state changes nothing
+pub informs : (hart : ℕ) (words : List ℕ) (G : Ground) → Called hart Info words words G G (record { status = Success; value = 1 })
+informs hart words G = record {
+  serves = λ S met stands. (refl, stands);
   lawful = ([], tt, refl);
   refused = λ e. (refl, refl);
   fences = λ most within. stays_within G.pages G.harts words words most (λ at past. refl) within;

@@ -7,5 +7,7 @@
 
 mod checks;
 mod creation;
+mod info;
 
 pub use creation::create_tvm;
+pub use info::get_tsm_info;

@@ -1,4 +1,5 @@
 pub mod BegunTvm
+pub mod BuiltRegions
 pub mod ChangedFields
 pub mod CreatedTvm
 pub mod GivenPages

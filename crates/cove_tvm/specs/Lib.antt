@@ -1,3 +1,4 @@
+pub mod BuiltTvms
 pub mod Entered
 pub mod Examples
 pub mod GroundLaws

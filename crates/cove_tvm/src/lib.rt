@@ -18,7 +18,7 @@ pub use examples::{
     worked_creation, worked_harts, worked_leaves, worked_leaving, worked_numbers, worked_standing,
 };
 pub use ground::Ground;
-pub use laws::{creation_law, frame_law, opening_law};
+pub use laws::{building_law, creation_law, frame_law, opening_law};
 pub use machines::{Life, Tvm};
 pub use tvms::Tvms;
 pub use vcpus::{Bound, RunState, VcpuSlot};

@@ -1,6 +1,6 @@
 ghost use Rattle.std.specs.Prelude.{◌≡◌};
 ghost use Rattle.std.specs.Option.{option_copied};
-ghost use Rattle.cove_tvm.specs.Lives.{is_gone};
+ghost use Rattle.cove_tvm.specs.Lives.{is_gone, is_runnable};
 ghost use Rattle.cove_tvm.specs.Slots.{slot_at};
 
 use crate::vcpus::VcpuSlot;
@@ -28,6 +28,16 @@ impl Life {
         match self {
             Life::Building | Life::Runnable => false,
             Life::Gone => true,
+        }
+    }
+
+    /// Whether the TVM is finalized.
+    pub fn is_runnable(self) -> bool
+        ensures { result ≡ is_runnable self }
+    {
+        match self {
+            Life::Building | Life::Gone => false,
+            Life::Runnable => true,
         }
     }
 }
