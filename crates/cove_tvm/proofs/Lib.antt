@@ -1,5 +1,6 @@
 pub mod BegunTvm
 pub mod BuiltRegions
+pub mod FinalizedTvm
 pub mod ChangedFields
 pub mod CreatedTvm
 pub mod GivenPages

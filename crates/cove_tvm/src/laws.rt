@@ -1,5 +1,5 @@
 //! What words and ground stand for at the opening, and what leaves it.
-ghost use Rattle.cove_tvm.specs.BuiltTvms.{RegionStands};
+ghost use Rattle.cove_tvm.specs.BuiltTvms.{FinalizeStands, RegionStands};
 ghost use Rattle.cove_tvm.specs.GroundLaws.{ConvertStands, GlobalFenceStands, LocalFenceStands, OpeningStands, OwnersChangeStands, ReclaimStands};
 ghost use Rattle.cove_tvm.specs.Leaves.{LeftTvmsStand};
 ghost use Rattle.cove_tvm.specs.NewTvms.{CreateIsLawful, CreateStands};
@@ -30,8 +30,9 @@ pub fn creation_law()
     ensures lawful { CreateIsLawful }
 {}
 
-/// The law of the calls that build a TVM, which runs no code: where its regions stand for those with one more, words and ground
-/// stand for the state after the call.
+/// The law of the calls that build a TVM, which runs no code: where its regions stand for those with one more, or its registers
+/// are extended by the finalize record and its vCPUs started, words and ground stand for the state after the call.
 pub fn building_law()
     ensures region { RegionStands }
+    ensures finalize { FinalizeStands }
 {}
