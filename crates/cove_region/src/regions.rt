@@ -70,6 +70,7 @@ impl Regions {
         ensures overlap { (result ≡ Err RegionFault.Overlap) ↔ (AreAll self.old AreaKind.Outside (pages_from first.0 count) → ⊥) }
         ensures full { (result ≡ Err RegionFault.Full)
             ↔ (AreAll self.old AreaKind.Outside (pages_from first.0 count) × (REGION_LIMIT ≤ length self.old.regions)) }
+        ensures only { (result ≡ Err RegionFault.NotInside) → ⊥ }
         ensures kinds { OnOk result (AreMade AreaKind.Private (pages_from first.0 count) self.old self.new) }
         ensures regions { OnOk result (self.new.regions ≡ self.old.regions ++ pages_from first.0 count ∷ []) }
         ensures refused { OnErr result (self.new ≡ self.old) }
@@ -94,6 +95,7 @@ impl Regions {
         ensures full { (result ≡ Err RegionFault.Full)
             ↔ (AreOfOneRegion self.old AreaKind.Private (pages_from first.0 count)
             × FormTooManyRows (shared_with self.old (pages_from first.0 count))) }
+        ensures only { (result ≡ Err RegionFault.Overlap) → ⊥ }
         ensures kinds { OnOk result (AreMade AreaKind.Shared (pages_from first.0 count) self.old self.new) }
         ensures regions { self.new.regions ≡ self.old.regions }
         ensures refused { OnErr result (self.new ≡ self.old) }
@@ -118,6 +120,7 @@ impl Regions {
         ensures full { (result ≡ Err RegionFault.Full)
             ↔ (AreOfOneRegion self.old AreaKind.Shared (pages_from first.0 count)
             × FormTooManyRows (shared_without self.old (pages_from first.0 count))) }
+        ensures only { (result ≡ Err RegionFault.Overlap) → ⊥ }
         ensures kinds { OnOk result (AreMade AreaKind.Private (pages_from first.0 count) self.old self.new) }
         ensures regions { self.new.regions ≡ self.old.regions }
         ensures refused { OnErr result (self.new ≡ self.old) }
