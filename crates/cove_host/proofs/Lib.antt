@@ -1,4 +1,6 @@
 mod CheckedLemmas
 mod Creating
+mod Finalizing
 mod FreePages
+mod LifeTold
 mod ReadyWords

@@ -1,2 +1,4 @@
 pub mod Called
 pub mod Checked
+pub mod Finalized
+pub mod Found

@@ -68,8 +68,8 @@ pub(crate) fn free<W: Words>(w: &mut W, g: &Ground, base: u64, n: u64) -> Result
     check(!all_free(w, range, floor), Status::InvalidAddress)
 }
 
-// Answers a check that fails.
-fn check(fails: bool, status: Status) -> Result<(), Reply>
+/// Answers a check that fails.
+pub(crate) fn check(fails: bool, status: Status) -> Result<(), Reply>
     ensures { result ≡ checked (plain fails status) }
 {
     if fails {

@@ -7,7 +7,10 @@
 
 mod checks;
 mod creation;
+mod finalization;
 mod info;
+mod lives;
 
 pub use creation::create_tvm;
+pub use finalization::finalize_tvm;
 pub use info::get_tsm_info;

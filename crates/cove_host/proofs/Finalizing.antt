@@ -1,0 +1,61 @@
+-- The outcome of finalizing a TVM.
+use Rattle.std.proofs.Common.{◌≡◌, ◌-◌, ℕ, zero, suc, List, [], ◌∷◌, Some, Ok, refl, sym, subst, arith}
+use Rattle.std.proofs.lemmas.Option.{none-some}
+use Rattle.cove_base.specs.declared.calls.HostCall.TheVariants.{Finalize}
+use Rattle.cove_base.specs.declared.statuses.Status.TheVariants.{Success}
+use Rattle.cove_host.proofs.CheckedLemmas.{first_passes, none_fails}
+use Rattle.cove_host.proofs.Creating.{stays_within}
+use Rattle.cove_host.proofs.LifeTold.{both_live}
+use Rattle.cove_host.specs.Called.{Called}
+use Rattle.cove_host.specs.Checked.{all_checked}
+use Rattle.cove_host.specs.Finalized.{IsFinalized}
+use Rattle.cove_model.specs.Checks.{HasSomeCpu, IsBuilding, Live, PlaceAligned}
+use Rattle.cove_model.specs.HostCalls.{rule}
+use Rattle.cove_model.specs.States.{State, find_tvm}
+use Rattle.cove_model.specs.Tvms.{Tvm as ModelTvm}
+use Rattle.cove_tvm.proofs.BuiltRegions.{live_stands}
+use Rattle.cove_tvm.proofs.FinalizedTvm.{finalize_stands}
+use Rattle.cove_tvm.specs.Stands.{Stands}
+use Rattle.cove_tvm.specs.TvmLends.{with_tvm}
+use Rattle.cove_tvm.specs.TvmTables.{live_at}
+use Rattle.cove_tvm.specs.declared.ground.Ground.{Ground}
+use Rattle.cove_tvm.specs.declared.machines.Tvm.{Tvm}
+
+module _ (words : List ℕ) (G H : Ground) (hart pc arg : ℕ) where
+  -- the ground after the TVM with a number was finalized
+  abbrev Finishes : (t : ℕ) → Type 0
+  Finishes t =
+      (old : Tvm) → live_at G.tvms t ≡ Some old
+      → (new : Tvm) × IsFinalized pc arg old new × (H ≡ record G { tvms = with_tvm G.tvms (t - 1) new })
+
+  finished : (t : ℕ) (S : State) (tvm : Tvm) (model : ModelTvm) → Stands words G S → live_at G.tvms t ≡ Some tvm → find_tvm S t ≡ Some model
+      → Finishes t → Stands words H (rule S hart (Finalize t pc arg)).outcome.state
+  finished zero S tvm model stands live found finishes = absurd (none-some tvm live)
+  finished (suc k) S tvm model stands live found finishes =
+      let done = finishes tvm live in
+      let new = done.0 in
+      let before : suc k - 1 ≡ k = omega arith in
+      let old = live_stands words G S (suc k) tvm model stands live found in
+      subst (λ ground. Stands words ground (rule S hart (Finalize (suc k) pc arg)).outcome.state) (sym done.2)
+      (subst (λ n. Stands words (record G { tvms = with_tvm G.tvms n new }) (rule S hart (Finalize (suc k) pc arg)).outcome.state) (sym before)
+      (subst (λ one. Stands words (record G { tvms = with_tvm G.tvms k one }) (rule S hart (Finalize (suc k) pc arg)).outcome.state) (sym done.1.rest)
+      (finalize_stands k words G S hart pc arg tvm model new.registers new.v0 new.v1 new.v2 new.v3 stands live found
+      (done.1.measured model.records model.extensions old.fields.registers) done.1.v0 done.1.v1 done.1.v2 done.1.v3)))
+
+  -- an accepted call, by what the code leaves
+  pub finalizes : (t : ℕ) → ((S : State) → Stands words G S → (u : Unit {0}) × (Ok u ≡ all_checked (rule S hart (Finalize t pc arg)).checks)) → Finishes t
+      → Called hart (Finalize t pc arg) words words G H (record { status = Success; value = 0 })
+  finalizes t told finishes = record {
+    serves = λ S met stands.
+        let passed = told S stands in
+        let none = none_fails (rule S hart (Finalize t pc arg)).checks passed.0 (sym passed.1) in
+        let first = first_passes (Live S t) (IsBuilding S t ∷ HasSomeCpu S t ∷ PlaceAligned pc ∷ []) passed.0 (sym passed.1) in
+        let both = both_live words G S t (live_at G.tvms t) (find_tvm S t) (stands.tvm t) first.0 in
+        let after = finished t S both.0 both.1 stands both.2 both.3 finishes in
+        rw none (refl, after);
+    lawful = ([], tt, refl);
+    refused = λ e. absurd cc;
+    fences = λ most within. stays_within G.pages G.harts words words most (λ at past. refl) within;
+    count = refl;
+    size = refl;
+  }

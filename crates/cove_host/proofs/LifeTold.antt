@@ -1,0 +1,95 @@
+-- What the TVMs of the ground tell of those of a state.
+use Rattle.std.proofs.Common.{◌≡◌, ◌∙◌, ℕ, zero, suc, ◌==◌, Bool, true, false, List, [], ◌∷◌, length, Option, Some, None, is_none, cond, refl, sym, ap, arith}
+use Rattle.std.proofs.lemmas.Bool.{eq-eqb, ne_eqb}
+use Rattle.std.proofs.lemmas.Option.{none-some}
+use Rattle.std.specs.Prelude.{unwrap_or}
+use Rattle.cove_host.specs.Found.{has_no_cpu}
+use Rattle.cove_model.specs.Keyed.{at}
+use Rattle.cove_model.specs.States.{State, find_cpu}
+use Rattle.cove_model.specs.Tvms.{Cpu, Tvm as ModelTvm, new_tvm}
+use Rattle.cove_tvm.specs.Slots.{slot_at}
+use Rattle.cove_tvm.specs.TvmStands.{TvmStands}
+use Rattle.cove_tvm.specs.VcpuStands.{SlotStands}
+use Rattle.cove_tvm.specs.declared.ground.Ground.{Ground}
+use Rattle.cove_tvm.specs.declared.machines.Tvm.{Tvm}
+use Rattle.cove_tvm.specs.declared.vcpus.VcpuSlot.{VcpuSlot}
+
+-- ---- the vCPUs
+
+abbrev none_of : (a b c d : Option VcpuSlot) → Bool
+none_of a b c d = cond (is_none a) (cond (is_none b) (cond (is_none c) (is_none d) false) false) false
+
+some_first : (a b c d : Option VcpuSlot) (slot : VcpuSlot) → a ≡ Some slot → none_of a b c d ≡ false
+some_first None b c d slot is = absurd (none-some slot is)
+some_first (Some x) b c d slot is = refl
+
+some_second : (a b c d : Option VcpuSlot) (slot : VcpuSlot) → b ≡ Some slot → none_of a b c d ≡ false
+some_second (Some x) b c d slot is = refl
+some_second None None c d slot is = absurd (none-some slot is)
+some_second None (Some x) c d slot is = refl
+
+some_third : (a b c d : Option VcpuSlot) (slot : VcpuSlot) → c ≡ Some slot → none_of a b c d ≡ false
+some_third (Some x) b c d slot is = refl
+some_third None (Some x) c d slot is = refl
+some_third None None None d slot is = absurd (none-some slot is)
+some_third None None (Some x) d slot is = refl
+
+some_fourth : (a b c d : Option VcpuSlot) (slot : VcpuSlot) → d ≡ Some slot → none_of a b c d ≡ false
+some_fourth (Some x) b c d slot is = refl
+some_fourth None (Some x) c d slot is = refl
+some_fourth None None (Some x) d slot is = refl
+some_fourth None None None None slot is = absurd (none-some slot is)
+some_fourth None None None (Some x) slot is = refl
+
+-- a TVM with a vCPU doesn't lack all
+some_slot : (tvm : Tvm) (v : ℕ) (slot : VcpuSlot) → slot_at tvm v ≡ Some slot → has_no_cpu (Some tvm) ≡ false
+some_slot tvm zero slot is = some_first tvm.v0 tvm.v1 tvm.v2 tvm.v3 slot is
+some_slot tvm (suc zero) slot is = some_second tvm.v0 tvm.v1 tvm.v2 tvm.v3 slot is
+some_slot tvm (suc (suc zero)) slot is = some_third tvm.v0 tvm.v1 tvm.v2 tvm.v3 slot is
+some_slot tvm (suc (suc (suc zero))) slot is = some_fourth tvm.v0 tvm.v1 tvm.v2 tvm.v3 slot is
+some_slot tvm (suc (suc (suc (suc v)))) slot is = absurd (none-some slot is)
+
+-- the first vCPU is the one with its number
+found_first : (cpu : Cpu) (cpus : List Cpu) → at (λ c. c.number) cpu.number (cpu ∷ cpus) ≡ Some cpu
+found_first cpu cpus = ap (λ b. cond b (Some cpu) (at (λ c. c.number) cpu.number cpus)) (eq-eqb cpu.number cpu.number refl)
+
+all_none : (a b c d : Option VcpuSlot) → a ≡ None → b ≡ None → c ≡ None → d ≡ None → none_of a b c d ≡ true
+all_none a b c d first second third fourth = rw (first, second, third, fourth) refl
+
+module _ (words : List ℕ) (G : Ground) (S : State) (t : ℕ) where
+  no_slot : (v : ℕ) (slot : Option VcpuSlot) (cpu : Option Cpu) → SlotStands G.pages G.harts words S.seats G.files t v slot cpu → cpu ≡ None → slot ≡ None
+  no_slot v None cpu stands is = refl
+  no_slot v (Some slot) None stands is = absurd stands
+  no_slot v (Some slot) (Some cpu) stands is = absurd (none-some cpu (sym is))
+
+  one_slot : (v : ℕ) (slot : Option VcpuSlot) (found : Option Cpu) (cpu : Cpu) → SlotStands G.pages G.harts words S.seats G.files t v slot found → found ≡ Some cpu
+      → (one : VcpuSlot) × (slot ≡ Some one)
+  one_slot v (Some slot) found cpu stands is = (slot, refl)
+  one_slot v None None cpu stands is = absurd (none-some cpu is)
+  one_slot v None (Some other) cpu stands is = absurd stands
+
+  slots_told : (tvm : Tvm) (model : ModelTvm) (cpus : List Cpu) → model.cpus ≡ cpus
+      → ((v : ℕ) → SlotStands G.pages G.harts words S.seats G.files t v (slot_at tvm v) (find_cpu model v)) → has_no_cpu (Some tvm) ≡ (length cpus == 0)
+  slots_told tvm model [] are slots =
+      let none = λ (v : ℕ). no_slot v (slot_at tvm v) (find_cpu model v) (slots v) (ap (at (λ cpu. cpu.number) v) are) in
+      all_none tvm.v0 tvm.v1 tvm.v2 tvm.v3 (none 0) (none 1) (none 2) (none 3)
+  slots_told tvm model (cpu ∷ cpus) are slots =
+      let one = one_slot cpu.number (slot_at tvm cpu.number) (find_cpu model cpu.number) cpu (slots cpu.number)
+      (ap (at (λ c. c.number) cpu.number) are ∙ found_first cpu cpus) in
+      some_slot tvm cpu.number one.0 one.1 ∙ sym (ne_eqb (length (cpu ∷ cpus)) 0 (λ e. omega arith))
+
+  -- a TVM lacks vCPUs where it has none in the state
+  pub cpus_told : (x : Option Tvm) (v : Option ModelTvm) → TvmStands G.pages G.harts words t S.seats G.files x v
+      → has_no_cpu x ≡ (length (unwrap_or v (new_tvm t)).cpus == 0)
+  cpus_told None None stands = refl
+  cpus_told None (Some model) stands = absurd stands
+  cpus_told (Some tvm) None stands = absurd stands
+  cpus_told (Some tvm) (Some model) stands = slots_told tvm model model.cpus refl stands.fields.cpu
+
+  -- a TVM that is live in the state is live in the ground
+  pub both_live : (x : Option Tvm) (v : Option ModelTvm) → TvmStands G.pages G.harts words t S.seats G.files x v → is_none v ≡ false
+      → (tvm : Tvm) × (model : ModelTvm) × (x ≡ Some tvm) × (v ≡ Some model)
+  both_live None None stands some = absurd cc
+  both_live None (Some model) stands some = absurd stands
+  both_live (Some tvm) None stands some = absurd stands
+  both_live (Some tvm) (Some model) stands some = (tvm, model, refl, refl)
