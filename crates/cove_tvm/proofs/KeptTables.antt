@@ -1,4 +1,4 @@
--- The tables of a TVM, on new words that leave it.
+-- The tables of a TVM, on new words that keep it.
 use Rattle.std.proofs.Common.{◌≡◌, ℕ, ◌+◌, ◌*◌, ◌/◌, ◌%◌, ◌^◌, ◌<◌, ◌≤◌, ◌∙◌, List, get_or, length, sym, ap, subst, arith, inl, inr}
 use Rattle.cove_base.proofs.TableLemmas.{below-absent, below-table}
 use Rattle.cove_base.proofs.TreeLemmas.{link-slot}
@@ -8,14 +8,14 @@ use Rattle.cove_base.specs.Tables.{Slot, InRoot, InMiddle, InLast, IsLeaf, IsLin
 use Rattle.cove_base.specs.declared.numbers.Role.{Role}
 use Rattle.cove_base.specs.declared.numbers.Role.TheVariants.{Root, Table}
 use Rattle.cove_model.specs.LawfulStores.{IsRoot}
-use Rattle.cove_tvm.specs.Leaves.{LeavesTvm}
+use Rattle.cove_tvm.specs.KeptOwn.{KeepsTvm}
 use Rattle.cove_tvm.specs.TvmStands.{AreTables}
 
-module _ (pages harts t root : ℕ) (old new pool : List ℕ) (leaves : LeavesTvm pages harts old new t)
+module _ (pages harts t root : ℕ) (old new pool : List ℕ) (leaves : KeepsTvm pages harts old new t)
     (tables : AreTables pages harts old t root pool) where
   -- a page that was given is given still
   pub given_kept : (p : ℕ) (role : Role) → p < pages → get_or old p 0 ≡ given t role → get_or new p 0 ≡ given t role
-  given_kept p role on = (leaves.page p role on).1
+  given_kept p role on = leaves.page p role on
 
   root_word : (n : ℕ) → n < 2048 → get_or new (table_word pages root n) 0 ≡ get_or old (table_word pages root n) 0
   root_word n slot =
@@ -62,7 +62,7 @@ module _ (pages harts t root : ℕ) (old new pool : List ℕ) (leaves : LeavesTv
       record {
         fits = was.fits;
         roots = λ i low. given_kept (root + i) Root (omega arith) (was.roots i low);
-        least = λ p low is. was.least p low ((leaves.page p Root (omega arith)).0 is);
+        least = λ p low is. was.least p low (leaves.root p (omega arith) is);
       }
 
   tree_kept : IsTree pages root new

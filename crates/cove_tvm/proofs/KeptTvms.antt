@@ -1,5 +1,6 @@
--- A TVM stands still on new words that leave it.
-use Rattle.std.proofs.Common.{◌≡◌, ℕ, ◌+◌, ◌<◌, ◌≤◌, ◌∙◌, ◌==◌, false, not, List, Option, Some, None, sym, ap, subst, inl, inr}
+-- A TVM stands still on new words that keep it.
+use Rattle.std.proofs.Common.{◌≡◌, ℕ, ◌+◌, ◌<◌, ◌≤◌, ◌∙◌, ◌==◌, false, not, List, get_or, Option, Some, None, sym, ap, subst, inl, inr}
+use Rattle.cove_base.specs.PageWords.{given}
 use Rattle.cove_base.specs.Tables.{Names, leaf_at}
 use Rattle.cove_base.specs.declared.numbers.Role.{Role}
 use Rattle.cove_base.specs.declared.numbers.Role.TheVariants.{Root, State, Table, Vcpu, Data}
@@ -14,6 +15,7 @@ use Rattle.cove_base.specs.InterruptFiles.{InterruptFile}
 use Rattle.cove_tvm.proofs.KeptTables.{leaf_kept, link_kept, tables_kept}
 use Rattle.cove_tvm.specs.Entered.{entered_below, is_entered_below, WaitsSince}
 use Rattle.cove_tvm.specs.LeafStands.{LeafStands, StandingStands, leaf_of}
+use Rattle.cove_tvm.specs.KeptOwn.{KeepsTvm}
 use Rattle.cove_tvm.specs.Leaves.{LeavesTvm, LeftTvmsStand}
 use Rattle.cove_tvm.specs.Slots.{slot_at}
 use Rattle.cove_tvm.specs.TvmStands.{AreFields, AreMappings, ArePages, IsFoundAs, LiveStands}
@@ -22,7 +24,18 @@ use Rattle.cove_tvm.specs.declared.machines.Tvm.{Tvm}
 use Rattle.cove_tvm.specs.declared.vcpus.Bound.{Bound}
 use Rattle.cove_tvm.specs.declared.vcpus.VcpuSlot.{VcpuSlot}
 
-module _ (pages harts t : ℕ) (old new : List ℕ) (leaves : LeavesTvm pages harts old new t) where
+-- words that leave a TVM keep it
+keeps_left : (pages harts t : ℕ) (old new : List ℕ) → LeavesTvm pages harts old new t → KeepsTvm pages harts old new t
+keeps_left pages harts t old new leaves = record {
+  size = leaves.size;
+  page = λ p role on. (leaves.page p role on).1;
+  root = λ p on. (leaves.page p Root on).0;
+  table = leaves.table;
+  number = leaves.number;
+  inside = leaves.inside;
+}
+
+module _ (pages harts t : ℕ) (old new : List ℕ) (leaves : KeepsTvm pages harts old new t) where
   entered_kept : (number : ℕ) → entered_below pages harts new t number ≡ entered_below pages harts old t number
   entered_kept number =
       filter_harts (is_entered_below pages harts new t number) (is_entered_below pages harts old t number) harts
@@ -79,11 +92,11 @@ module _ (pages harts t : ℕ) (old new : List ℕ) (leaves : LeavesTvm pages ha
     runs = stands.runs;
     bound = binding_kept files slot.bound slot.saved cpu.binding cpu.file stands.bound;
     page_fits = stands.page_fits;
-    page_is = (leaves.page slot.page.0 Vcpu stands.page_fits).1 stands.page_is;
+    page_is = leaves.page slot.page.0 Vcpu stands.page_fits stands.page_is;
   }
 
   module _ (seats : ℕ → Option Seat) (files : FileTable) (tvm : Tvm) (model : ModelTvm) (live : LiveStands pages harts old t seats files tvm model) where
-    found_kept : (page : ℕ) (role : Role) → IsFoundAs pages harts old t tvm page role → IsFoundAs pages harts new t tvm page role
+    pub found_kept : (page : ℕ) (role : Role) → IsFoundAs pages harts old t tvm page role → IsFoundAs pages harts new t tvm page role
     found_kept page Root found = found
     found_kept page State found = found
     found_kept page Table (inl found) = inl found
@@ -92,14 +105,7 @@ module _ (pages harts t : ℕ) (old new : List ℕ) (leaves : LeavesTvm pages ha
     found_kept page Data found =
         (found.0, found.1, subst (Names page false) (sym (leaf_kept pages harts t tvm.tables.root.0 old new tvm.pool.pages leaves live.tables found.0 found.1)) found.2)
 
-    pages_kept : ArePages pages harts new t tvm
-    pages_kept = record {
-      state_fits = live.owned.state_fits;
-      state_is = (leaves.page tvm.state.0 State live.owned.state_fits).1 live.owned.state_is;
-      found = λ page role on is. found_kept page role (live.owned.found page role on ((leaves.page page role on).0 is));
-    }
-
-    mappings_kept : AreMappings pages harts new t tvm.tables.root.0 tvm.pool.pages model
+    pub mappings_kept : AreMappings pages harts new t tvm.tables.root.0 tvm.pool.pages model
     mappings_kept = record {
       leaf = λ g low.
           let same = leaf_kept pages harts t tvm.tables.root.0 old new tvm.pool.pages leaves live.tables g low in
@@ -112,7 +118,7 @@ module _ (pages harts t : ℕ) (old new : List ℕ) (leaves : LeavesTvm pages ha
       count = live.mappings.count;
     }
 
-    fields_kept : AreFields pages harts new t seats files tvm model
+    pub fields_kept : AreFields pages harts new t seats files tvm model
     fields_kept = record {
       life = live.fields.life;
       regions = live.fields.regions;
@@ -125,12 +131,21 @@ module _ (pages harts t : ℕ) (old new : List ℕ) (leaves : LeavesTvm pages ha
       cpu = λ v. slot_kept seats files v (slot_at tvm v) (find_cpu model v) (live.fields.cpu v);
     }
 
-    live_kept : LiveStands pages harts new t seats files tvm model
-    live_kept = record {
+    -- the pages that it was given, where no more are
+    pages_kept : ((p : ℕ) (role : Role) → p < pages → get_or new p 0 ≡ given t role → get_or old p 0 ≡ given t role) → ArePages pages harts new t tvm
+    pages_kept same = record {
+      state_fits = live.owned.state_fits;
+      state_is = leaves.page tvm.state.0 State live.owned.state_fits live.owned.state_is;
+      found = λ page role on is. found_kept page role (live.owned.found page role on (same page role on is));
+    }
+
+    live_kept : ((p : ℕ) (role : Role) → p < pages → get_or new p 0 ≡ given t role → get_or old p 0 ≡ given t role)
+        → LiveStands pages harts new t seats files tvm model
+    live_kept same = record {
       board = live.board;
       room = live.room;
       tables = tables_kept pages harts t tvm.tables.root.0 old new tvm.pool.pages leaves live.tables;
-      owned = pages_kept;
+      owned = pages_kept same;
       mappings = mappings_kept;
       fields = fields_kept;
     }
@@ -140,4 +155,4 @@ left_tvms_stand pages harts t old new seats files None None leaves stands = stan
 left_tvms_stand pages harts t old new seats files None (Some model) leaves stands = absurd stands
 left_tvms_stand pages harts t old new seats files (Some tvm) None leaves stands = absurd stands
 left_tvms_stand pages harts t old new seats files (Some tvm) (Some model) leaves stands =
-    live_kept pages harts t old new leaves seats files tvm model stands
+    live_kept pages harts t old new (keeps_left pages harts t old new leaves) seats files tvm model stands (λ p role on. (leaves.page p role on).0)

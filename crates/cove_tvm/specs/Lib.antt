@@ -3,6 +3,7 @@ pub mod Entered
 pub mod Examples
 pub mod GroundLaws
 pub mod LeafStands
+pub mod KeptOwn
 pub mod Leaves
 pub mod Lives
 pub mod NewTvms
