@@ -12,4 +12,5 @@ pub mod NewGround
 pub mod OwnerCalls
 pub mod LiveTvms
 pub mod OneTvmProofs
+pub mod NewVcpu
 mod RoomLemmas

@@ -7,6 +7,7 @@ pub mod KeptOwn
 pub mod Leaves
 pub mod Lives
 pub mod NewTvms
+pub mod NewVcpus
 pub mod OneTvm
 pub mod Slots
 pub mod Stands

@@ -12,6 +12,7 @@ mod ground;
 mod laws;
 mod machines;
 mod tvms;
+mod vcpu_laws;
 mod vcpus;
 
 pub use examples::{
@@ -21,6 +22,7 @@ pub use ground::Ground;
 pub use laws::{building_law, creation_law, frame_law, opening_law};
 pub use machines::{Life, Tvm};
 pub use tvms::Tvms;
+pub use vcpu_laws::vcpu_law;
 pub use vcpus::{Bound, RunState, VcpuSlot};
 
 #[cfg(test)]
