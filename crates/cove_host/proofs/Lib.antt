@@ -1,3 +1,4 @@
+mod Adding
 mod CheckedLemmas
 mod Creating
 mod Finalizing

@@ -60,16 +60,16 @@ fn creatable<W: Words>(w: &mut W, g: &Ground, root: u64, state: u64) -> Result<(
     free(w, g, state, 1)
 }
 
-// The page of a byte address.
-fn page_of(address: u64) -> Page
+/// The page of a byte address.
+pub(crate) fn page_of(address: u64) -> Page
     requires { address / 4096 < 2 ^ 32 }
     ensures { result.0 ≡ address / 4096 }
 {
     Page((address / 4096) as u32)
 }
 
-// Gives the pages from a byte address on to a TVM.
-fn give<W: Words>(w: &mut W, base: u64, n: u32, t: TvmId, role: Role)
+/// Gives the pages from a byte address on to a TVM.
+pub(crate) fn give<W: Words>(w: &mut W, base: u64, n: u32, t: TvmId, role: Role)
     requires places { base / 4096 + n ≤ length (W.words w.old) }
     requires limit { base / 4096 + n ≤ 2 ^ 16 }
     requires low { 1 ≤ t.0 }

@@ -10,7 +10,9 @@ mod creation;
 mod finalization;
 mod info;
 mod lives;
+mod vcpu_creation;
 
 pub use creation::create_tvm;
 pub use finalization::finalize_tvm;
 pub use info::get_tsm_info;
+pub use vcpu_creation::create_vcpu;

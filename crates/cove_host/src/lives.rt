@@ -1,6 +1,7 @@
 //! The checks of a TVM's life and of its vCPUs, each once for every call that has it.
 
-ghost use Rattle.std.specs.Prelude.{◌≡◌, ℕ, List};
+ghost use Rattle.std.specs.Prelude.{◌≡◌, ◌<◌, ℕ, List, OnOk};
+ghost use Rattle.cove_base.specs.declared.limits.TheConstants.{VCPU_LIMIT};
 ghost use Rattle.cove_host.specs.Checked.{checked};
 ghost use Rattle.cove_host.specs.Found.{has_cpu, has_no_cpu, runs};
 ghost use Rattle.cove_model.specs.Checks.{CpuNumber, HasSomeCpu, IsBuilding, Live, NoCpuYet, PlaceAligned};
@@ -35,7 +36,8 @@ pub(crate) fn has_some_cpu(g: &Ground, t: u64) -> Result<(), Reply>
 
 /// The number is one that a vCPU may have.
 pub(crate) fn cpu_number(v: u64) -> Result<(), Reply>
-    ensures { result ≡ checked (CpuNumber v) }
+    ensures told { result ≡ checked (CpuNumber v) }
+    ensures within { OnOk result (v < VCPU_LIMIT) }
 {
     check(v >= VCPU_LIMIT, Status::InvalidParam)
 }

@@ -1,0 +1,107 @@
+//! The creation of vCPUs.
+
+ghost use Rattle.std.specs.Prelude.{◌≡◌, ◌-◌, ◌/◌, ◌<◌, ◌≤◌, ℕ, OnOk, Some};
+ghost use Rattle.cove_base.specs.Unchanged.{Unchanged};
+ghost use Rattle.cove_base.specs.declared.calls.HostCall.TheVariants.{Vcpu};
+ghost use Rattle.cove_base.specs.declared.limits.TheConstants.{VCPU_LIMIT};
+ghost use Rattle.cove_host.specs.Called.{Called, IsReady};
+ghost use Rattle.cove_host.specs.Checked.{all_checked};
+ghost use Rattle.cove_model.specs.HostCalls.{rule};
+ghost use Rattle.cove_model.specs.LawfulStores.{AllowsLawful};
+ghost use Rattle.cove_model.specs.States.{State};
+ghost use Rattle.cove_tvm.specs.NewVcpus.{AddsCpu, IsNewCpu};
+ghost use Rattle.cove_tvm.specs.Stands.{Stands};
+ghost use Rattle.cove_tvm.specs.TvmLends.{with_tvm};
+ghost use Rattle.cove_tvm.specs.TvmTables.{live_at};
+ghost use Rattle.cove_tvm.specs.declared.ground.Ground.{Ground};
+ghost use Rattle.cove_tvm.specs.declared.machines.Tvm.{Tvm};
+
+use crate::checks::{aligned, free, inside};
+use crate::creation::{give, page_of};
+use crate::lives::{cpu_number, is_building, live, no_cpu_yet};
+use cove_base::{HartId, Page, Regs, Reply, Role, Status, TvmId, VCPU_LIMIT, Words};
+use cove_imsic::FileState;
+use cove_tvm::{Ground, RunState, Tvm, VcpuSlot};
+
+/// Creates a vCPU of a TVM, with the page at the byte address `state`.
+pub fn create_vcpu<W: Words>(
+    w: &mut W,
+    g: &mut Ground,
+    h: HartId,
+    t: u64,
+    v: u64,
+    state: u64,
+) -> Reply
+    requires ready { IsReady (W.words w.old) g.old }
+    requires on_board { h.0 < g.old.harts }
+    requires allowed { AllowsLawful (W.allows (W.guard w.old)) g.old.pages g.old.harts h.0 (W.words w.old) }
+    ensures called { Called h.0 (Vcpu t v state) (W.words w.old) (W.words w.new) g.old g.new result }
+    ensures guard { W.guard w.new ≡ W.guard w.old }
+{
+    match addable(w, g, t, v, state) {
+        Err(reply) => reply,
+        Ok(()) => {
+            give(w, state, 1, TvmId(t as u32), Role::Vcpu);
+            add(g, t, v, page_of(state));
+            Reply {
+                status: Status::Success,
+                value: 0,
+            }
+        }
+    }
+}
+
+// Whether a vCPU may be created of this page, or the answer.
+fn addable<W: Words>(w: &mut W, g: &Ground, t: u64, v: u64, state: u64) -> Result<(), Reply>
+    requires ready { IsReady (W.words w.old) g.now }
+    ensures told { (hart : ℕ) (S : State) → Stands (W.words w.old) g.now S
+        → result ≡ all_checked (rule S hart (Vcpu t v state)).checks }
+    ensures number { OnOk result (v < VCPU_LIMIT) }
+    ensures unchanged { Unchanged W.words W.clean W.guard w.old w.new }
+{
+    live(g, t)?;
+    is_building(g, t)?;
+    cpu_number(v)?;
+    no_cpu_yet(g, t, v)?;
+    aligned(state)?;
+    inside(g, state, 1)?;
+    free(w, g, state, 1)
+}
+
+// Adds a vCPU to the live TVM with a number.
+fn add(g: &mut Ground, t: u64, v: u64, page: Page)
+    requires { v < VCPU_LIMIT }
+    ensures { (old : Tvm) → live_at g.old.tvms t ≡ Some old → (new : Tvm) × AddsCpu v page.0 old new
+        × (g.new ≡ record g.old { tvms = with_tvm g.old.tvms (t - 1) new }) }
+{
+    if let Some(tvm) = g.tvms.live_mut(t) {
+        add_to(tvm, v, page);
+    }
+}
+
+// Adds a vCPU to a TVM.
+fn add_to(tvm: &mut Tvm, v: u64, page: Page)
+    requires { v < VCPU_LIMIT }
+    ensures { AddsCpu v page.0 tvm.old tvm.new }
+{
+    let slot = Some(new_slot(page));
+    match v {
+        0 => tvm.v0 = slot,
+        1 => tvm.v1 = slot,
+        2 => tvm.v2 = slot,
+        _ => tvm.v3 = slot,
+    }
+}
+
+// A vCPU as it is created.
+fn new_slot(page: Page) -> VcpuSlot
+    ensures { IsNewCpu page.0 result }
+{
+    VcpuSlot {
+        regs: Regs::new(),
+        run: RunState::Ready,
+        bound: None,
+        saved: FileState::new(),
+        page,
+    }
+}
