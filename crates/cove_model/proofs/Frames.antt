@@ -51,7 +51,7 @@ size_call S h (Remove t gpa n) = length-map S.pages (removed t (is_among gpa n))
 size_call S h (Destroy t) = length-map S.pages (freed t)
 size_call S h _ = refl
 
-framed_call : (S : State) (h : ℕ) (call : HostCall) → Framed S (outcome_state S h call)
+pub framed_call : (S : State) (h : ℕ) (call : HostCall) → Framed S (outcome_state S h call)
 framed_call S h call = record { harts = harts call; files = files call; key = key call; ended = ended call; size = size_call S h call }
   where
     harts : (c : HostCall) → (outcome_state S h c).harts ≡ S.harts

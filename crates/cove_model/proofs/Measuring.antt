@@ -201,7 +201,7 @@ mapped_apart S t tvm gpa n new live unmapped pages d =
     is_none_of None q = refl
     is_none_of (Some m) q = absurd (true≢false q)
 
-came_call : (S : State) (h : ℕ) (call : HostCall) → Passed (rule S h call).checks → AllCame S.tvms (outcome_state S h call).tvms
+pub came_call : (S : State) (h : ℕ) (call : HostCall) → Passed (rule S h call).checks → AllCame S.tvms (outcome_state S h call).tvms
 came_call S h (Create root state) ok t now e = ⊎_elim
     (λ old. inl (were_same S.tvms t now old))
     (λ new. inr (new.0, new.1.0 ∙ ap new_tvm new.1.1))

@@ -24,7 +24,7 @@ use Rattle.cove_model.specs.GuestPages.{is_among}
 use Rattle.cove_model.proofs.AtTheEnd.{after_push, from_end}
 use Rattle.cove_model.proofs.Distinct.{distinct_append, distinct_filter, has_kept, has_left, has_right, keys_altered, keys_dropped, some_has}
 use Rattle.cove_model.proofs.EventMoves.{Left, Put, Wrote, wrote_guest}
-use Rattle.cove_model.proofs.Measuring.{guests_differ}
+use Rattle.cove_model.proofs.Measuring.{came_call, guests_differ}
 use Rattle.cove_model.proofs.PageRuns.{each_cases}
 use Rattle.cove_model.proofs.Passing.{Passed, row_passed}
 use Rattle.cove_model.proofs.Lists.{all_append, all_weaker}
@@ -36,7 +36,7 @@ use Rattle.cove_model.specs.Histories.{after}
 use Rattle.cove_model.specs.Keyed.{alter}
 use Rattle.cove_model.specs.Mappings.{mapping_of}
 use Rattle.cove_model.specs.Offers.{cpu_of}
-use Rattle.cove_model.specs.Orderly.{AreDistinct, IsOrderly, numbers_of}
+use Rattle.cove_model.specs.Orderly.{AreDistinct, IsOrderly, guests_of, numbers_of}
 use Rattle.cove_model.specs.Steps.{acted, done, done_at, guest_done, guest_stored, host_done, left, line_ended, performed, stored_under}
 use Rattle.cove_model.specs.Tvms.{Backing, OwnPage, HostPage, Mapping, Tvm, new_tvm}
 
@@ -438,3 +438,22 @@ pub orderly : (script : ScriptValue) (H : List Entry) → IsOrderly (after scrip
 orderly script H =
     let a = after_numbered script H in
     record { numbers = a.distinct; made = a.made; guests = guests_differ script H; given = after_live script H }
+
+-- and after an accepted call of the host, whatever state it was made in
+pub orderly_call : (S : State) (h : ℕ) (call : HostCall) → Passed (rule S h call).checks → IsOrderly S → IsOrderly (outcome_state S h call)
+orderly_call S h call ok was =
+    let T = outcome_state S h call in
+    let new = kept_call S h call in
+    let a = numbered S T new (record { distinct = was.numbers; made = was.made }) in
+    record {
+      numbers = a.distinct;
+      made = a.made;
+      guests = λ t tvm live. ⊎_elim
+          (λ old. old.goes.orders (was.guests t old.tvm old.live))
+          (λ fresh. subst (λ x. AreDistinct (guests_of x)) (sym fresh.1) tt)
+          (came_call S h call ok t tvm live);
+      given = λ p u purpose e. ⊎_elim
+          (λ old. lives S T new p u purpose e (was.given p u purpose old))
+          (λ live. live)
+          (origin_call S h call ok p u purpose e);
+    }

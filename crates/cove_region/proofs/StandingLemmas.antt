@@ -13,7 +13,7 @@ use Rattle.cove_model.specs.Tvms.{Area as ModelArea, Tvm}
 use Rattle.cove_region.specs.declared.areas.Area.{Area}
 use Rattle.cove_region.specs.declared.kinds.AreaKind.{AreaKind}
 use Rattle.cove_region.specs.declared.kinds.AreaKind.TheVariants.{Outside, Private, Shared}
-use Rattle.cove_region.specs.GuestMaps.{AreMade, AreOfOneRegion, FormRows, FormTooManyRows, GuestMap, covers, has, holds, is_shared, kind_of, meets, pages_from, shared_with, shared_without}
+use Rattle.cove_region.specs.GuestMaps.{AreAll, AreMade, AreOfOneRegion, FormRows, FormTooManyRows, GuestMap, covers, has, holds, is_shared, kind_of, meets, pages_from, shared_with, shared_without}
 use Rattle.cove_region.specs.Rows.{HasPages}
 use Rattle.cove_region.specs.Standing.{AddedStand, AllPrivateAgrees, AllSharedAgrees, NoneStand, OutsideAgrees, OverlapAgrees, PrivateAgrees, RowsAgree, RowsWithAgree, RowsWithoutAgree, SharedAgrees, SharedStand, StandFor, UnsharedStand, area_of, pages_at}
 use Rattle.cove_region.proofs.AreaLemmas.{All-push, has_from, has_means}
@@ -33,7 +33,7 @@ has-area g a = grind (arith, nat_tests)
 covers-stand : (guests : GuestMap) (tvm : Tvm) → StandFor guests tvm → (g : ℕ) → covers guests.regions g ≡ list_any (model.holds g 1) tvm.regions
 covers-stand guests tvm s g = ap (λ areas. covers areas g) s.regions ∙ any-areas (model.holds g 1) (has g) (has-area g) tvm.regions
 
-meets-stand : (guests : GuestMap) (tvm : Tvm) → StandFor guests tvm → (first n : ℕ) → list_any (meets (pages_from first n)) guests.regions ≡ list_any (model.meets first n) tvm.regions
+pub meets-stand : (guests : GuestMap) (tvm : Tvm) → StandFor guests tvm → (first n : ℕ) → list_any (meets (pages_from first n)) guests.regions ≡ list_any (model.meets first n) tvm.regions
 meets-stand guests tvm s first n =
     ap (list_any (meets (pages_from first n))) s.regions ∙ any-areas (model.meets first n) (meets (pages_from first n)) (λ a. refl) tvm.regions
 
@@ -81,13 +81,20 @@ outside-agrees guests tvm s g =
 
 -- ---- what a call is refused for
 
+-- guest pages that meet no region are outside
+pub outside-free : (guests : GuestMap) (tvm : Tvm) → StandFor guests tvm → (first n : ℕ) → list_any (model.meets first n) tvm.regions ≡ false
+    → AreAll guests Outside (pages_from first n)
+outside-free guests tvm s first n free g here =
+    (outside-kind (is_shared guests g) (covers guests.regions g) (s.inside g)).1
+    (free_page (pages_from first n) guests.regions g (meets-stand guests tvm s first n ∙ free) here)
+
 pub overlap-agrees : OverlapAgrees
 overlap-agrees guests tvm s first n some =
     let pages : Area = pages_from first n in
     let met = meets-stand guests tvm s first n in (
       λ taken. elim (cases_Bool (list_any (meets pages) guests.regions)) [
         | inl meet ↦ sym met ∙ meet
-        | inr free ↦ absurd (taken (λ g here. (outside-kind (is_shared guests g) (covers guests.regions g) (s.inside g)).1 (free_page pages guests.regions g free here)))
+        | inr free ↦ absurd (taken (outside-free guests tvm s first n (sym met ∙ free)))
       ],
       λ meet all.
           let page = met_page pages guests.regions (omega (arith, some)) s.some (met ∙ meet) in

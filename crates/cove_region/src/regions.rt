@@ -1,6 +1,6 @@
-ghost use Rattle.std.specs.Prelude.{◌≡◌, ◌↔◌, ◌+◌, ◌^◌, ◌<◌, ◌≤◌, [], ◌∷◌, ◌++◌, ℕ, true, length, OnOk, OnErr, IsTrue, slice_index_or, ◌⊎◌};
+ghost use Rattle.std.specs.Prelude.{◌≡◌, ◌↔◌, ◌+◌, ◌^◌, ◌<◌, ◌≤◌, [], ◌∷◌, ◌++◌, ℕ, true, length, nat_le, OnOk, OnErr, IsTrue, slice_index_or, ◌⊎◌};
 ghost use Rattle.std.specs.List.{list_any, AllPairs};
-ghost use Rattle.cove_region.specs.GuestMaps.{AreAll, AreMade, AreOfOneRegion, FormRows, FormTooManyRows, holds, is_shared, kind_of, pages_from, shared_with, shared_without};
+ghost use Rattle.cove_region.specs.GuestMaps.{AreAll, AreMade, AreOfOneRegion, FormRows, FormTooManyRows, holds, is_shared, kind_of, meets, pages_from, shared_with, shared_without};
 ghost use Rattle.cove_region.specs.Rows.{AreDisjoint};
 
 use crate::areas::{Area, any_has, any_holds, any_meets, first_holding};
@@ -61,6 +61,21 @@ impl Regions {
         } else {
             AreaKind::Outside
         }
+    }
+
+    /// Whether some guest pages meet a region.
+    pub fn overlaps(&self, first: Gpn, count: u64) -> bool
+        requires fits { first.0 + count ≤ 2 ^ 52 }
+        ensures { result ≡ list_any (meets (pages_from first.0 count)) self.now.regions }
+    {
+        any_meets(self.regions.as_slice(), area(first, count))
+    }
+
+    /// Whether there are as many regions as there may be.
+    pub fn is_full(&self) -> bool
+        ensures { result ≡ nat_le REGION_LIMIT (length self.now.regions) }
+    {
+        self.regions.len() >= REGION_LIMIT
     }
 
     /// Adds a region, whose guest pages are private.

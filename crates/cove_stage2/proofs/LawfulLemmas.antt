@@ -19,14 +19,14 @@ use Rattle.cove_stage2.specs.Lacked.{tables_lacked}
 use Rattle.cove_stage2.specs.LawfulTables.{AreGiven, BlockIsLawful, ClearIsLawful, LeafKeepsGiven, MapIsLawful, MapKeepsGiven, UnblockIsLawful, UnmapIsLawful}
 use Rattle.cove_stage2.specs.MapStores.{link_stores, map_stores, next_page, pool_after, pool_left, slot_stores, way_stores}
 
-allowed-append : (allows : List ℕ → ℕ → ℕ → Type 0) (words : List ℕ) (ss ts : List (ℕ × ℕ)) → AllAllowed allows words ss → AllAllowed allows (stored words ss) ts → AllAllowed allows words (ss ++ ts)
+pub allowed-append : (allows : List ℕ → ℕ → ℕ → Type 0) (words : List ℕ) (ss ts : List (ℕ × ℕ)) → AllAllowed allows words ss → AllAllowed allows (stored words ss) ts → AllAllowed allows words (ss ++ ts)
 allowed-append allows words [] ts first second = second
 allowed-append allows words (s ∷ ss) ts first second = (first.0, allowed-append allows (set words s.0 s.1) ss ts first.1 second)
 
 -- ---- where slots stand
 
 module _ (pages : ℕ) (words : List ℕ) (tvm root : ℕ) (pool : List ℕ) (tree : IsTree pages root words) (of : AreGiven pages words tvm root pool) where
-  given_in : (a : Slot) (place : ℕ) → IsSlot a → StandsAt pages root words a place → IsOwnPlace pages words tvm place
+  pub given_in : (a : Slot) (place : ℕ) → IsSlot a → StandsAt pages root words a place → IsOwnPlace pages words tvm place
   given_in (InRoot n) place slot at = record {
     page = root + n / 512;
     i = n % 512;
@@ -113,14 +113,14 @@ clear_is_lawful pages harts hart old words tvm page below of left = clears pages
 -- ---- mapping
 
 -- what is known of the tables of a TVM after one of the slots on the way was linked
-record IsLinked (pages harts hart : ℕ) (old words new : List ℕ) (tvm root : ℕ) (left : List ℕ) (a : Slot) (ss : List (ℕ × ℕ)) : Type 0 where
-  allowed : AllAllowed (IsLawful pages harts hart old) words ss
-  tree : IsTree pages root new
-  pool_is : IsPool pages root new left
-  of : AreGiven pages new tvm root left
-  page : ℕ
-  links : LinksTable pages root words new a page
-  words_stay : (p : ℕ) → p < pages → get_or new p 0 ≡ get_or words p 0
+pub record IsLinked (pages harts hart : ℕ) (old words new : List ℕ) (tvm root : ℕ) (left : List ℕ) (a : Slot) (ss : List (ℕ × ℕ)) : Type 0 where
+  pub allowed : AllAllowed (IsLawful pages harts hart old) words ss
+  pub tree : IsTree pages root new
+  pub pool_is : IsPool pages root new left
+  pub of : AreGiven pages new tvm root left
+  pub page : ℕ
+  pub links : LinksTable pages root words new a page
+  pub words_stay : (p : ℕ) → p < pages → get_or new p 0 ≡ get_or words p 0
 
 module _ (pages harts hart : ℕ) (old words : List ℕ) (tvm root : ℕ) (pool : List ℕ) (tree : IsTree pages root words) (spare : IsPool pages root words pool) (of : AreGiven pages words tvm root pool) where
   -- the next page of the pool is linked
@@ -200,7 +200,7 @@ module _ (pages harts hart : ℕ) (old words : List ℕ) (tvm root : ℕ) (pool 
             words_stay = λ p low. refl;
           }
 
-middle_place : (pages root : ℕ) (words : List ℕ) (n q : ℕ) → entry_at pages root words (InRoot (n / 512)) ≡ next_table q → StandsAt pages root words (InMiddle n) (slot_place pages root words (InMiddle n))
+pub middle_place : (pages root : ℕ) (words : List ℕ) (n q : ℕ) → entry_at pages root words (InRoot (n / 512)) ≡ next_table q → StandsAt pages root words (InMiddle n) (slot_place pages root words (InMiddle n))
 middle_place pages root words n q named =
     let is : entry_at pages root words (InRoot (n / 512)) / 1024 ≡ q = omega (arith, named) in
     (q, named, ap (λ p. table_word pages p (n % 512)) is)
@@ -216,38 +216,38 @@ module _ (pages harts hart : ℕ) (old words pool : List ℕ) (tvm root g : ℕ)
   abbrev lower_slot : Slot
   lower_slot = InMiddle (g / 512)
 
-  abbrev upper_stores : List (ℕ × ℕ)
+  abbrev pub upper_stores : List (ℕ × ℕ)
   upper_stores = slot_stores pages root words pool upper_slot
 
-  abbrev mid : List ℕ
+  abbrev pub mid : List ℕ
   mid = stored words upper_stores
 
-  abbrev left : List ℕ
+  abbrev pub left : List ℕ
   left = pool_after (entry_at pages root words upper_slot) pool
 
-  upper : IsLinked pages harts hart old words mid tvm root left upper_slot upper_stores
+  pub upper : IsLinked pages harts hart old words mid tvm root left upper_slot upper_stores
   upper = slot_linked pages harts hart old words tvm root pool tree spare of upper_slot (omega arith) refl (enough-upper pages root words g (length pool) enough)
 
   same_lower : entry_at pages root mid lower_slot ≡ entry_at pages root words lower_slot
   same_lower = upper.links.others lower_slot (omega arith) (λ e. root≢middle (g / 512 / 512) (g / 512) (sym e))
 
-  abbrev lower_stores : List (ℕ × ℕ)
+  abbrev pub lower_stores : List (ℕ × ℕ)
   lower_stores = slot_stores pages root mid left lower_slot
 
-  abbrev linked : List ℕ
+  abbrev pub linked : List ℕ
   linked = stored mid lower_stores
 
-  lower : IsLinked pages harts hart old mid linked tvm root (pool_after (entry_at pages root mid lower_slot) left) lower_slot lower_stores
+  pub lower : IsLinked pages harts hart old mid linked tvm root (pool_after (entry_at pages root mid lower_slot) left) lower_slot lower_stores
   lower = slot_linked pages harts hart old mid tvm root left upper.tree upper.pool_is upper.of lower_slot (omega arith)
       (middle_place pages root mid (g / 512) upper.page upper.links.named) (λ e. enough-lower pages root words g pool enough (sym same_lower ∙ e))
 
-  linked_way : entry_at pages root linked lower_slot ≢ 0
+  pub linked_way : entry_at pages root linked lower_slot ≢ 0
   linked_way z = let e = sym lower.links.named ∙ z in omega arith
 
-  abbrev way : List (ℕ × ℕ)
+  abbrev pub way : List (ℕ × ℕ)
   way = upper_stores ++ lower_stores
 
-  way_is : stored words way ≡ linked
+  pub way_is : stored words way ≡ linked
   way_is = stored-append words upper_stores lower_stores
 
   -- a page is mapped that stands behind the leaf

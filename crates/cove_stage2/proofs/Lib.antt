@@ -1,8 +1,10 @@
 mod ClearLemmas
 mod EntryLemmas
-pub mod LackedLemmas
-mod LawfulLemmas
 mod LeafLemmas
 mod LinkLemmas
-mod RestLemmas
+pub mod LackedCounts
+pub mod LackedLemmas
+pub mod LawfulLemmas
+pub mod MapPlaces
+pub mod RestLemmas
 pub mod ZeroLemmas

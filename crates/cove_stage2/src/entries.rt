@@ -68,7 +68,7 @@ pub fn decode_entry(word: u64) -> Option<TableEntry>
 }
 
 /// The leaf of which this is the word.
-pub(crate) fn decode(word: u64) -> Leaf
+pub fn decode(word: u64) -> Leaf
     requires { IsLeaf word }
     ensures word { leaf_word result ≡ word }
     ensures within { IsWithin result }

@@ -14,7 +14,7 @@ mod tables;
 #[cfg(test)]
 mod tests;
 
-pub use entries::{Leaf, TableEntry, decode_entry, encode};
+pub use entries::{Leaf, TableEntry, decode, decode_entry, encode};
 pub use laws::table_stores_law;
 pub use pools::Pool;
 pub use tables::Tables;

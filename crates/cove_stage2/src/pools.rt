@@ -1,4 +1,4 @@
-ghost use Rattle.std.specs.Prelude.{◌≡◌, ◌-◌, ◌<◌, ◌++◌, [], ◌∷◌, IfOk, length, take};
+ghost use Rattle.std.specs.Prelude.{◌≡◌, ◌-◌, ◌<◌, ◌++◌, [], ◌∷◌, IfOk, length, slice_index, take};
 ghost use Rattle.cove_stage2.specs.MapStores.{next_page};
 
 use cove_base::{NoMemory, Page};
@@ -50,6 +50,14 @@ impl Pool {
         ensures { result ≡ length self.now.pages }
     {
         self.left
+    }
+
+    /// The page at a place, in the order in which they were added.
+    pub fn page(&self, k: u32) -> Page
+        requires { k < length self.now.pages }
+        ensures { result.0 ≡ slice_index self.now.pages k }
+    {
+        Page(self.pages[k as usize])
     }
 
     /// Takes the page that was added last.
