@@ -3,15 +3,14 @@ use Rattle.std.proofs.Common.{◌≡◌, ◌-◌, ◌+◌, ◌/◌, ◌≤◌, �
 use Rattle.std.proofs.lemmas.Bool.{ltb-false, not-false}
 use Rattle.std.proofs.lemmas.Option.{none-some}
 use Rattle.std.specs.Prelude.{unwrap_or}
-use Rattle.cove_base.proofs.StoreLemmas.{AllAllowed-weaker, get_or-fills_other, length-stored}
+use Rattle.cove_base.proofs.StoreLemmas.{AllAllowed-weaker, get_or-fills_other}
 use Rattle.cove_base.specs.PageWords.{given}
-use Rattle.cove_base.specs.Places.{count_word}
 use Rattle.cove_base.specs.Stores.{AllAllowed, stored}
 use Rattle.cove_base.specs.declared.calls.HostCall.TheVariants.{Vcpu as VcpuCall}
 use Rattle.cove_base.specs.declared.numbers.Role.TheVariants.{Vcpu}
 use Rattle.cove_base.specs.declared.statuses.Status.TheVariants.{Success}
-use Rattle.cove_host.proofs.CheckedLemmas.{first_passes, none_fails, passes}
-use Rattle.cove_host.proofs.Creating.{stays_within}
+use Rattle.cove_host.proofs.PassedCalls.{AllPass, passed_call}
+use Rattle.cove_host.proofs.CheckedLemmas.{first_passes, passes}
 use Rattle.cove_host.proofs.LifeTold.{both_live}
 use Rattle.cove_host.specs.Called.{Called, IsReady}
 use Rattle.cove_host.specs.Checked.{all_checked, checked}
@@ -24,7 +23,8 @@ use Rattle.cove_model.specs.Seated.{IsSeated}
 use Rattle.cove_model.specs.States.{State, find_cpu, find_tvm}
 use Rattle.cove_model.specs.Tvms.{Cpu, Tvm as ModelTvm, new_tvm}
 use Rattle.cove_tvm.proofs.NewVcpu.{adding_is_lawful, adding_stands}
-use Rattle.cove_tvm.specs.NewVcpus.{AddsCpu, MayAdd, vcpu_stores}
+use Rattle.cove_tvm.specs.GivenRuns.{MayGive}
+use Rattle.cove_tvm.specs.NewVcpus.{AddsCpu, vcpu_stores}
 use Rattle.cove_tvm.specs.Stands.{Stands}
 use Rattle.cove_tvm.specs.TvmLends.{with_tvm}
 use Rattle.cove_tvm.specs.TvmTables.{live_at}
@@ -98,27 +98,24 @@ passed words G S t v state u stands e =
     }
 
 module _ (words : List ℕ) (G : Ground) (hart v state : ℕ) (ready : IsReady words G) where
-  abbrev Told : (t : ℕ) → Type 0
-  Told t = (S : State) → Stands words G S → (u : Unit {0}) × (Ok u ≡ all_checked (adding_checks S t v state))
-
-  pass : (t : ℕ) → Told t → (S : State) → Stands words G S → Passed words G S t v state
+  pass : (t : ℕ) → AllPass hart (VcpuCall t v state) words G → (S : State) → Stands words G S → Passed words G S t v state
   pass t told S stands = let one = told S stands in passed words G S t v state one.0 stands (sym one.1)
 
   -- the page is on the board
-  page_inside : (t : ℕ) → Told t → state / 4096 + 1 ≤ G.pages
+  page_inside : (t : ℕ) → AllPass hart (VcpuCall t v state) words G → state / 4096 + 1 ≤ G.pages
   page_inside t told = (pass t told ready.state ready.stands).inside
 
-  may : (k : ℕ) (S : State) (stands : Stands words G S) (one : Passed words G S (suc k) v state) → MayAdd words G S k state one.old one.model
+  may : (k : ℕ) (S : State) (stands : Stands words G S) (one : Passed words G S (suc k) v state) → MayGive words G S k state 1 one.old one.model
   may k S stands one = record { stands = stands; live = one.live; found = one.found; inside = one.inside; free = one.free }
 
-  store_lawful : (t : ℕ) → Told t → AllAllowed (IsLawful G.pages G.harts hart words) words (vcpu_stores t state)
+  store_lawful : (t : ℕ) → AllPass hart (VcpuCall t v state) words G → AllAllowed (IsLawful G.pages G.harts hart words) words (vcpu_stores t state)
   store_lawful zero told = let one = pass 0 told ready.state ready.stands in absurd (none-some one.old one.live)
   store_lawful (suc k) told =
       let one = pass (suc k) told ready.state ready.stands in
       adding_is_lawful k words G ready.state hart state one.old one.model (may k ready.state ready.stands one)
 
   -- and so allowed where every lawful store is
-  pub store_allowed : (allows : List ℕ → ℕ → ℕ → Type 0) → AllowsLawful allows G.pages G.harts hart words → (t : ℕ) → Told t
+  pub store_allowed : (allows : List ℕ → ℕ → ℕ → Type 0) → AllowsLawful allows G.pages G.harts hart words → (t : ℕ) → AllPass hart (VcpuCall t v state) words G
       → AllAllowed allows words (vcpu_stores t state)
   store_allowed allows lawful t told =
       AllAllowed-weaker (IsLawful G.pages G.harts hart words) allows words (vcpu_stores t state) lawful (store_lawful t told)
@@ -139,26 +136,14 @@ module _ (words : List ℕ) (G : Ground) (hart v state : ℕ) (ready : IsReady w
         (subst (λ n. Stands (stored words (vcpu_stores (suc k) state)) (record G { tvms = with_tvm G.tvms n done.0 }) (rule S hart (VcpuCall (suc k) v state)).outcome.state) (sym before)
         (adding_stands k words G S hart v state one.old done.0 one.model (may k S stands one) seated one.none done.1))
 
-    behind : (t : ℕ) → Told t → (at : ℕ) → G.pages ≤ at → get_or (stored words (vcpu_stores t state)) at 0 ≡ get_or words at 0
+    behind : (t : ℕ) → AllPass hart (VcpuCall t v state) words G → (at : ℕ) → G.pages ≤ at → get_or (stored words (vcpu_stores t state)) at 0 ≡ get_or words at 0
     behind t told at past = let inside = page_inside t told in get_or-fills_other words (state / 4096) 1 (given t Vcpu) at (inr (omega arith))
 
-    accepted : (t : ℕ) → Told t → Adds t
-        → Called hart (VcpuCall t v state) words (stored words (vcpu_stores t state)) G H (record { status = Success; value = 0 })
-    accepted t told adds = record {
-      serves = λ S met stands.
-          let one = told S stands in
-          let none = none_fails (adding_checks S t v state) one.0 (sym one.1) in
-          let stand = after t S stands met.seated (pass t told S stands) adds in
-          rw none (refl, stand);
-      lawful = (vcpu_stores t state, store_lawful t told, refl);
-      refused = λ e. absurd cc;
-      fences = λ most within. stays_within G.pages G.harts words (stored words (vcpu_stores t state)) most (behind t told) within;
-      count = behind t told (count_word G.pages G.harts) (omega arith);
-      size = length-stored words (vcpu_stores t state);
-    }
-
     -- an accepted call, by what the code leaves
-    pub adds_vcpu : (t : ℕ) (new : List ℕ) → Told t → Adds t → new ≡ stored words (vcpu_stores t state)
+    pub adds_vcpu : (t : ℕ) (new : List ℕ) → AllPass hart (VcpuCall t v state) words G → Adds t → new ≡ stored words (vcpu_stores t state)
         → Called hart (VcpuCall t v state) words new G H (record { status = Success; value = 0 })
     adds_vcpu t new told adds stores =
-        subst (λ ws. Called hart (VcpuCall t v state) words ws G H (record { status = Success; value = 0 })) (sym stores) (accepted t told adds)
+        subst (λ ws. Called hart (VcpuCall t v state) words ws G H (record { status = Success; value = 0 })) (sym stores)
+        (passed_call hart (VcpuCall t v state) words G H (vcpu_stores t state) told
+        (λ S met stands. after t S stands met.seated (pass t told S stands) adds) (λ S. refl) (store_lawful t told)
+        (λ at past. behind t told at (omega arith)))

@@ -1,5 +1,6 @@
 -- What checks in their order answer.
-use Rattle.std.proofs.Common.{◌≡◌, ◌∙◌, Bool, true, false, cond, List, [], ◌∷◌, Option, Some, None, Result, Ok, Err, refl, sym, ap, arith}
+use Rattle.std.proofs.Common.{◌≡◌, ◌∙◌, Bool, true, false, cond, List, [], ◌∷◌, ◌++◌, Option, Some, None, Result, Ok, Err, refl, sym, ap, arith}
+use Rattle.std.specs.List.{AllByRecursion}
 use Rattle.cove_base.specs.declared.statuses.Reply.{Reply}
 use Rattle.cove_host.specs.Checked.{all_checked, checked}
 use Rattle.cove_model.specs.Refusals.{Check, first_failing}
@@ -55,3 +56,13 @@ pub one_fails : (checks : List Check) (reply : Reply) → all_checked checks ≡
 one_fails [] reply e = absurd cc
 one_fails (check ∷ checks) reply e =
     failed_first check.fails (record { status = check.status; value = check.value }) reply (all_checked checks) (first_failing checks) (one_fails checks reply) e
+
+-- where the first checks pass, those after them answer
+pub front_passes : (front rest : List Check) → AllByRecursion (λ check. (u : Unit {0}) × (Ok u ≡ checked check)) front → all_checked (front ++ rest) ≡ all_checked rest
+front_passes [] rest all = refl
+front_passes (check ∷ front) rest all = passes check (front ++ rest) (Ok all.0.0) all.0.0 all.0.1 refl ∙ front_passes front rest all.1
+
+-- and the next one where it fails
+pub then_fails : (front : List Check) (check : Check) (rest : List Check) (reply : Reply) → AllByRecursion (λ one. (u : Unit {0}) × (Ok u ≡ checked one)) front
+    → Err reply ≡ checked check → all_checked (front ++ check ∷ rest) ≡ Err reply
+then_fails front check rest reply all e = front_passes front (check ∷ rest) all ∙ fails check rest (Err reply) reply e refl

@@ -1,13 +1,12 @@
 -- The outcome of finalizing a TVM.
-use Rattle.std.proofs.Common.{◌≡◌, ◌-◌, ℕ, zero, suc, List, [], ◌∷◌, Some, Ok, refl, sym, subst, arith}
+use Rattle.std.proofs.Common.{◌≡◌, ◌-◌, ℕ, zero, suc, List, [], ◌∷◌, Some, refl, sym, subst, arith}
 use Rattle.std.proofs.lemmas.Option.{none-some}
 use Rattle.cove_base.specs.declared.calls.HostCall.TheVariants.{Finalize}
 use Rattle.cove_base.specs.declared.statuses.Status.TheVariants.{Success}
-use Rattle.cove_host.proofs.CheckedLemmas.{first_passes, none_fails}
-use Rattle.cove_host.proofs.Creating.{stays_within}
+use Rattle.cove_host.proofs.PassedCalls.{AllPass, passed_call}
+use Rattle.cove_host.proofs.CheckedLemmas.{first_passes}
 use Rattle.cove_host.proofs.LifeTold.{both_live}
 use Rattle.cove_host.specs.Called.{Called}
-use Rattle.cove_host.specs.Checked.{all_checked}
 use Rattle.cove_host.specs.Finalized.{IsFinalized}
 use Rattle.cove_model.specs.Checks.{HasSomeCpu, IsBuilding, Live, PlaceAligned}
 use Rattle.cove_model.specs.HostCalls.{rule}
@@ -43,19 +42,13 @@ module _ (words : List ℕ) (G H : Ground) (hart pc arg : ℕ) where
       (done.1.measured model.records model.extensions old.fields.registers) done.1.v0 done.1.v1 done.1.v2 done.1.v3)))
 
   -- an accepted call, by what the code leaves
-  pub finalizes : (t : ℕ) → ((S : State) → Stands words G S → (u : Unit {0}) × (Ok u ≡ all_checked (rule S hart (Finalize t pc arg)).checks)) → Finishes t
+  pub finalizes : (t : ℕ) → AllPass hart (Finalize t pc arg) words G → Finishes t
       → Called hart (Finalize t pc arg) words words G H (record { status = Success; value = 0 })
-  finalizes t told finishes = record {
-    serves = λ S met stands.
-        let passed = told S stands in
-        let none = none_fails (rule S hart (Finalize t pc arg)).checks passed.0 (sym passed.1) in
-        let first = first_passes (Live S t) (IsBuilding S t ∷ HasSomeCpu S t ∷ PlaceAligned pc ∷ []) passed.0 (sym passed.1) in
-        let both = both_live words G S t (live_at G.tvms t) (find_tvm S t) (stands.tvm t) first.0 in
-        let after = finished t S both.0 both.1 stands both.2 both.3 finishes in
-        rw none (refl, after);
-    lawful = ([], tt, refl);
-    refused = λ e. absurd cc;
-    fences = λ most within. stays_within G.pages G.harts words words most (λ at past. refl) within;
-    count = refl;
-    size = refl;
-  }
+  finalizes t told finishes =
+      passed_call hart (Finalize t pc arg) words G H [] told
+      (λ S met stands.
+      let passed = told S stands in
+      let first = first_passes (Live S t) (IsBuilding S t ∷ HasSomeCpu S t ∷ PlaceAligned pc ∷ []) passed.0 (sym passed.1) in
+      let both = both_live words G S t (live_at G.tvms t) (find_tvm S t) (stands.tvm t) first.0 in
+      finished t S both.0 both.1 stands both.2 both.3 finishes)
+      (λ S. refl) tt (λ at past. refl)

@@ -11,7 +11,7 @@ use Rattle.cove_tvm.specs.declared.ground.Ground.{Ground}
 
 module _ (words : List ℕ) (G : Ground) (ready : IsReady words G) where
   -- a page is mapped shared at most as often as there are table words
-  few_maps : (p : ℕ) → p < G.pages → maps_of ready.state p < 2 ^ 32
+  pub few_maps : (p : ℕ) → p < G.pages → maps_of ready.state p < 2 ^ 32
   few_maps p on =
       let limit = ready.page_limit in
       let few = (stores_count_shared G.pages G.harts words p ready.stands.words_stand.stands.size).0 in

@@ -1,4 +1,14 @@
 pub mod Called
 pub mod Checked
+pub mod Ended
 pub mod Finalized
 pub mod Found
+pub mod GuestRuns
+pub mod Inside
+pub mod Leaving
+pub mod Mapped
+pub mod MeasuredRuns
+pub mod MoreRegions
+pub mod Raised
+pub mod Released
+pub mod Zeros

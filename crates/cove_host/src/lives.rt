@@ -1,10 +1,10 @@
 //! The checks of a TVM's life and of its vCPUs, each once for every call that has it.
 
-ghost use Rattle.std.specs.Prelude.{◌≡◌, ◌<◌, ℕ, List, OnOk};
+ghost use Rattle.std.specs.Prelude.{◌≡◌, ◌<◌, ℕ, List, OnOk, IsSome};
 ghost use Rattle.cove_base.specs.declared.limits.TheConstants.{VCPU_LIMIT};
 ghost use Rattle.cove_host.specs.Checked.{checked};
 ghost use Rattle.cove_host.specs.Found.{has_cpu, has_no_cpu, runs};
-ghost use Rattle.cove_model.specs.Checks.{CpuNumber, HasSomeCpu, IsBuilding, Live, NoCpuYet, PlaceAligned};
+ghost use Rattle.cove_model.specs.Checks.{CpuNumber, HasSomeCpu, IsBuilding, IsRunnable, Live, NoCpuYet, PlaceAligned};
 ghost use Rattle.cove_model.specs.States.{State};
 ghost use Rattle.cove_tvm.specs.Stands.{Stands};
 ghost use Rattle.cove_tvm.specs.TvmTables.{live_at};
@@ -16,6 +16,7 @@ use cove_tvm::Ground;
 /// The TVM is live.
 pub(crate) fn live(g: &Ground, t: u64) -> Result<(), Reply>
     ensures told { (words : List ℕ) (S : State) → Stands words g.now S → result ≡ checked (Live S t) }
+    ensures there { OnOk result (IsSome (live_at g.now.tvms t)) }
 {
     check(g.tvms.live(t).is_none(), Status::InvalidParam)
 }
@@ -25,6 +26,13 @@ pub(crate) fn is_building(g: &Ground, t: u64) -> Result<(), Reply>
     ensures told { (words : List ℕ) (S : State) → Stands words g.now S → result ≡ checked (IsBuilding S t) }
 {
     check(is_finalized(g, t), Status::Denied)
+}
+
+/// The TVM is finalized.
+pub(crate) fn is_runnable(g: &Ground, t: u64) -> Result<(), Reply>
+    ensures told { (words : List ℕ) (S : State) → Stands words g.now S → result ≡ checked (IsRunnable S t) }
+{
+    check(!is_finalized(g, t), Status::Denied)
 }
 
 /// The TVM has a vCPU.

@@ -26,7 +26,7 @@ allowed_append allows words [] ts one two = two
 allowed_append allows words (s ∷ ss) ts one two = (one.0, allowed_append allows (set words s.0 s.1) ss ts one.1 two)
 
 -- words of which those past the page words, and some page words, are the same
-free_still : (pages harts : ℕ) (words new : List ℕ) (p : ℕ) → ((place : ℕ) → pages ≤ place → get_or new place 0 ≡ get_or words place 0)
+pub free_still : (pages harts : ℕ) (words new : List ℕ) (p : ℕ) → ((place : ℕ) → pages ≤ place → get_or new place 0 ≡ get_or words place 0)
     → get_or new p 0 ≡ get_or words p 0 → IsFreeIn pages harts words p → IsFreeIn pages harts new p
 free_still pages harts words new p behind same free =
     let numbers : answered_in pages words ≡ answered_in pages new = fun_ext (λ k. sym (behind (answered_word pages k) (omega arith))) in
@@ -36,21 +36,28 @@ left_still : (pages harts t : ℕ) (words new : List ℕ) → ((place : ℕ) →
 left_still pages harts t words new behind left hart on inside =
     left hart on (inside.0, (inside.1.0, sym (behind (hart_word pages harts hart) (omega arith)) ∙ inside.1.1))
 
--- free pages are given to a TVM that no hart is inside, one after another
-pub gives : (pages harts hart t : ℕ) (old : List ℕ) (role : Role) (first n : ℕ) (now : List ℕ) → first + n ≤ pages → 1 ≤ t → t ≤ TVM_LIMIT
-    → IsLeft pages harts now t → ((p : ℕ) → first ≤ p → p < first + n → IsFreeIn pages harts now p)
+-- free pages are given to a TVM, as a root only where no hart is inside it, one after another
+pub gives_as : (pages harts hart t : ℕ) (old : List ℕ) (role : Role) (first n : ℕ) (now : List ℕ) → first + n ≤ pages → 1 ≤ t → t ≤ TVM_LIMIT
+    → (role ≡ Root → IsLeft pages harts now t) → ((p : ℕ) → first ≤ p → p < first + n → IsFreeIn pages harts now p)
     → AllAllowed (IsLawful pages harts hart old) now (fills first n (given t role))
-gives pages harts hart t old role first zero now inside low high left free = tt
-gives pages harts hart t old role first (suc n) now inside low high left free =
+gives_as pages harts hart t old role first zero now inside low high left free = tt
+gives_as pages harts hart t old role first (suc n) now inside low high left free =
     let behind : (place : ℕ) → pages ≤ place → get_or (set now first (given t role)) place 0 ≡ get_or now place 0 =
     λ place past. get_or-set_other now first place (given t role) 0 (omega arith) in (
-      Gives first t role (omega arith) low high refl (free first (omega arith) (omega arith)) refl (λ root. left),
-      gives pages harts hart t old role (first + 1) n (set now first (given t role)) (omega arith) low high
-          (left_still pages harts t now (set now first (given t role)) behind left)
+      Gives first t role (omega arith) low high refl (free first (omega arith) (omega arith)) refl left,
+      gives_as pages harts hart t old role (first + 1) n (set now first (given t role)) (omega arith) low high
+          (λ root. left_still pages harts t now (set now first (given t role)) behind (left root))
           (λ p above below.
           free_still pages harts now (set now first (given t role)) p behind
           (get_or-set_other now first p (given t role) 0 (omega arith)) (free p (omega arith) (omega arith))),
     )
+
+-- where no hart is inside it, in any role
+pub gives : (pages harts hart t : ℕ) (old : List ℕ) (role : Role) (first n : ℕ) (now : List ℕ) → first + n ≤ pages → 1 ≤ t → t ≤ TVM_LIMIT
+    → IsLeft pages harts now t → ((p : ℕ) → first ≤ p → p < first + n → IsFreeIn pages harts now p)
+    → AllAllowed (IsLawful pages harts hart old) now (fills first n (given t role))
+gives pages harts hart t old role first n now inside low high left free =
+    gives_as pages harts hart t old role first n now inside low high (λ root. left) free
 
 module _ (words : List ℕ) (ground : Ground) (S : MonitorState) (root state : ℕ) (stands : Stands words ground S) (seated : IsSeated S)
     (fences : FencesWithin ground.pages ground.harts words ENTRY_LIMIT) (may : MayCreate ground.pages root state S) where

@@ -1,16 +1,30 @@
+mod RoomLemmas
 pub mod BegunTvm
 pub mod BuiltRegions
-pub mod FinalizedTvm
 pub mod ChangedFields
 pub mod CreatedTvm
+pub mod FinalizedTvm
+pub mod FreeRuns
 pub mod GivenPages
+pub mod GivenTables
 pub mod GivesLawful
+pub mod GoneShares
+pub mod GoneTvm
+pub mod KeptFields
 pub mod KeptGround
 pub mod KeptTables
 pub mod KeptTvms
-pub mod NewGround
-pub mod OwnerCalls
 pub mod LiveTvms
-pub mod OneTvmProofs
+pub mod MappedRuns
+pub mod NewGround
 pub mod NewVcpu
-mod RoomLemmas
+pub mod OneTvmProofs
+pub mod OwnerCalls
+pub mod PrivateRuns
+pub mod RunLives
+pub mod RunMappings
+pub mod RunPages
+pub mod SharedCounts
+pub mod SharedRuns
+pub mod TablesMissing
+pub mod UsedTables

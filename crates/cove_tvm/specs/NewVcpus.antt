@@ -1,5 +1,5 @@
 -- What a new vCPU is, and that words and ground stand after one was added.
-use Rattle.std.specs.Prelude.{◌≡◌, ◌≢◌, ℕ, suc, ◌+◌, ◌/◌, ◌≤◌, true, List, Some, None, replicate}
+use Rattle.std.specs.Prelude.{◌≡◌, ◌≢◌, ℕ, suc, ◌/◌, List, Some, None, replicate}
 use Rattle.cove_base.specs.InterruptFiles.{empty_file}
 use Rattle.cove_base.specs.PageWords.{given}
 use Rattle.cove_base.specs.Places.{page_word}
@@ -9,14 +9,13 @@ use Rattle.cove_base.specs.declared.calls.HostCall.TheVariants.{Vcpu as VcpuCall
 use Rattle.cove_base.specs.declared.numbers.Role.TheVariants.{Vcpu}
 use Rattle.cove_model.specs.HostCalls.{rule}
 use Rattle.cove_model.specs.LawfulStores.{IsLawful}
-use Rattle.cove_model.specs.Owners.{every, is_free}
 use Rattle.cove_model.specs.Seated.{IsSeated}
-use Rattle.cove_model.specs.States.{State, find_cpu, find_tvm}
+use Rattle.cove_model.specs.States.{State, find_cpu}
 use Rattle.cove_model.specs.Tvms.{Tvm as ModelTvm}
+use Rattle.cove_tvm.specs.GivenRuns.{MayGive}
 use Rattle.cove_tvm.specs.Slots.{slot_at}
 use Rattle.cove_tvm.specs.Stands.{Stands}
 use Rattle.cove_tvm.specs.TvmLends.{with_tvm}
-use Rattle.cove_tvm.specs.TvmTables.{live_at}
 use Rattle.cove_tvm.specs.declared.ground.Ground.{Ground}
 use Rattle.cove_tvm.specs.declared.machines.Tvm.{Tvm}
 use Rattle.cove_tvm.specs.declared.vcpus.RunState.TheVariants.{Ready}
@@ -43,19 +42,11 @@ pub record AddsCpu (v page : ℕ) (old new : Tvm) : Type 0 where
 abbrev pub vcpu_stores : (t state : ℕ) → List (ℕ × ℕ)
 vcpu_stores t state = fills (page_word (state / 4096)) 1 (given t Vcpu)
 
--- a TVM is live on both sides, and a page is on the board and free
-pub record MayAdd (words : List ℕ) (G : Ground) (S : State) (k state : ℕ) (old : Tvm) (model : ModelTvm) : Type 0 where
-  pub stands : Stands words G S
-  pub live : live_at G.tvms (suc k) ≡ Some old
-  pub found : find_tvm S (suc k) ≡ Some model
-  pub inside : state / 4096 + 1 ≤ G.pages
-  pub free : every is_free (state / 4096) 1 S.pages ≡ true
-
 -- Where a TVM has one more vCPU, and its page, all of it stands for the state after the call.
 abbrev pub AddingStands : Type 0
 AddingStands =
     (k : ℕ) (words : List ℕ) (G : Ground) (S : State) (hart v state : ℕ) (old new : Tvm) (model : ModelTvm)
-    → MayAdd words G S k state old model → IsSeated S → find_cpu model v ≡ None → AddsCpu v (state / 4096) old new
+    → MayGive words G S k state 1 old model → IsSeated S → find_cpu model v ≡ None → AddsCpu v (state / 4096) old new
     → Stands (stored words (vcpu_stores (suc k) state)) (record G { tvms = with_tvm G.tvms k new })
     (rule S hart (VcpuCall (suc k) v state)).outcome.state
 
@@ -63,5 +54,5 @@ AddingStands =
 abbrev pub AddingIsLawful : Type 0
 AddingIsLawful =
     (k : ℕ) (words : List ℕ) (G : Ground) (S : State) (hart state : ℕ) (old : Tvm) (model : ModelTvm)
-    → MayAdd words G S k state old model
+    → MayGive words G S k state 1 old model
     → AllAllowed (IsLawful G.pages G.harts hart words) words (vcpu_stores (suc k) state)

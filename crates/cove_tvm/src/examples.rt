@@ -3,18 +3,21 @@
 ghost use Rattle.std.specs.Prelude.{◌≡◌, ◌<◌, ℕ, List, [], ◌∷◌, Some, None, false, true, slice_index};
 ghost use Rattle.cove_base.specs.PageWords.{given, released};
 ghost use Rattle.cove_base.specs.Tables.{present};
-ghost use Rattle.cove_base.specs.declared.numbers.Role.TheVariants.{Root};
+ghost use Rattle.cove_base.specs.declared.numbers.Role.TheVariants.{Root, Table};
 ghost use Rattle.cove_model.specs.States.{State};
 ghost use Rattle.cove_tvm.specs.Entered.{WaitsSince, entered_below};
 ghost use Rattle.cove_tvm.specs.Examples.{just, nine_free, own_five, two_inside};
+ghost use Rattle.cove_tvm.specs.KeptOwn.{KeepsTvm};
 ghost use Rattle.cove_tvm.specs.LeafStands.{LeafStands};
 ghost use Rattle.cove_tvm.specs.Leaves.{LeavesEveryTvm, LeavesTvm};
 ghost use Rattle.cove_tvm.specs.NewTvms.{MayCreate, create_stores};
+ghost use Rattle.cove_tvm.specs.NewVcpus.{AddsCpu, IsNewCpu};
 ghost use Rattle.cove_tvm.specs.Stands.{Stands};
 ghost use Rattle.cove_tvm.specs.TvmTables.{live_at};
 ghost use Rattle.cove_tvm.specs.declared.ground.Ground.{Ground};
 ghost use Rattle.cove_tvm.specs.declared.machines.Life.TheVariants.{Gone, Runnable};
 ghost use Rattle.cove_tvm.specs.declared.machines.Tvm.{Tvm};
+ghost use Rattle.cove_tvm.specs.declared.vcpus.VcpuSlot.{VcpuSlot};
 
 /// A TVM is live by its number until it is destroyed; no TVM has the number 0.
 pub fn worked_numbers()
@@ -48,6 +51,22 @@ pub fn worked_leaving()
     ensures same_for_one { (words : List ℕ) (t : ℕ) → LeavesTvm 1 1 words words t }
     ensures taken { (old new : List ℕ) → slice_index old 0 ≡ given 1 Root → slice_index new 0 ≡ released
         → LeavesTvm 1 1 old new 1 → ⊥ }
+{}
+
+/// Words keep a TVM where a free page becomes a table page of its own, but not where it becomes one of its root's.
+pub fn worked_keeping()
+    ensures same { (words : List ℕ) (t : ℕ) → KeepsTvm 1 1 words words t }
+    ensures more { (rest : List ℕ) → KeepsTvm 1 1 (released ∷ rest) (given 1 Table ∷ rest) 1 }
+    ensures root { (rest : List ℕ) → KeepsTvm 1 1 (released ∷ rest) (given 1 Root ∷ rest) 1 → ⊥ }
+    ensures taken { (rest : List ℕ) → KeepsTvm 1 1 (given 1 Table ∷ rest) (released ∷ rest) 1 → ⊥ }
+{}
+
+/// A TVM has a new vCPU by its number, and no other one changes.
+pub fn worked_adding()
+    ensures adds { (tvm : Tvm) (slot : VcpuSlot) → IsNewCpu 5 slot → AddsCpu 1 5 tvm (record tvm { v1 = Some slot }) }
+    ensures other { (tvm : Tvm) (slot : VcpuSlot) → tvm.v1 ≡ None → AddsCpu 1 5 tvm (record tvm { v2 = Some slot }) → ⊥ }
+    ensures changed { (tvm : Tvm) (slot : VcpuSlot) → tvm.v2 ≡ None
+        → AddsCpu 1 5 tvm (record tvm { v1 = Some slot; v2 = Some slot }) → ⊥ }
 {}
 
 /// A ground with a live TVM stands for no state without one.

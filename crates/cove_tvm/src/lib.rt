@@ -7,20 +7,29 @@
 //! on the definitions of `cove_model`, on the tables over words of `cove_stage2`, and on regions, registers and interrupt
 //! files.
 
+mod destroy_laws;
 mod examples;
 mod ground;
 mod laws;
 mod machines;
+mod pool_laws;
+mod run_laws;
+mod table_laws;
 mod tvms;
 mod vcpu_laws;
 mod vcpus;
 
+pub use destroy_laws::destroy_law;
 pub use examples::{
-    worked_creation, worked_harts, worked_leaves, worked_leaving, worked_numbers, worked_standing,
+    worked_adding, worked_creation, worked_harts, worked_keeping, worked_leaves, worked_leaving,
+    worked_numbers, worked_standing,
 };
 pub use ground::Ground;
 pub use laws::{building_law, creation_law, frame_law, opening_law};
 pub use machines::{Life, Tvm};
+pub use pool_laws::tables_law;
+pub use run_laws::run_law;
+pub use table_laws::missing_law;
 pub use tvms::Tvms;
 pub use vcpu_laws::vcpu_law;
 pub use vcpus::{Bound, RunState, VcpuSlot};

@@ -1,0 +1,88 @@
+-- The outcome of a convert.
+use Rattle.std.proofs.Common.{◌≡◌, ℕ, ◌+◌, ◌/◌, ◌≤◌, List, [], ◌∷◌, get_or, length, Ok, true, false, refl, sym, subst, inr, arith}
+use Rattle.std.proofs.lemmas.Bool.{ltb-false, not-false}
+use Rattle.std.specs.List.{list_any}
+use Rattle.cove_base.proofs.StoreLemmas.{AllAllowed-weaker, get_or-fills_other}
+use Rattle.cove_base.specs.PageWords.{converting}
+use Rattle.cove_base.specs.Places.{count_word}
+use Rattle.cove_base.specs.Stores.{AllAllowed, stored}
+use Rattle.cove_base.specs.declared.calls.HostCall.TheVariants.{Convert}
+use Rattle.cove_base.specs.declared.statuses.Status.TheVariants.{Success}
+use Rattle.cove_host.proofs.AcceptedCalls.{accepts}
+use Rattle.cove_host.proofs.CheckedLemmas.{first_passes, none_fails}
+use Rattle.cove_host.proofs.Creating.{stays_within}
+use Rattle.cove_host.proofs.SharedPages.{in_run, unshared_words}
+use Rattle.cove_host.specs.Called.{Called, IsReady}
+use Rattle.cove_host.specs.Checked.{all_checked}
+use Rattle.cove_model.proofs.LawfulProofs.{convert_is_lawful}
+use Rattle.cove_model.specs.Checks.{AllHost, Inside, NoneShared}
+use Rattle.cove_model.specs.LawfulStores.{AllowsLawful, IsLawful}
+use Rattle.cove_model.specs.Owners.{every, is_host}
+use Rattle.cove_model.specs.Refusals.{Aligned, Check, Count}
+use Rattle.cove_model.specs.States.{State, shared_pages}
+use Rattle.cove_model.specs.WordLaws.{convert_stores}
+use Rattle.cove_model.specs.WordsStand.{epoch_in}
+use Rattle.cove_tvm.proofs.OwnerCalls.{ground_converts}
+use Rattle.cove_tvm.specs.Stands.{Stands}
+use Rattle.cove_tvm.specs.declared.ground.Ground.{Ground}
+
+abbrev pub from_host : State → (base n : ℕ) → List Check
+from_host S base n = AllHost S base n ∷ NoneShared S base n ∷ []
+
+abbrev pub convert_checks : State → (base n : ℕ) → List Check
+convert_checks S base n = Count n ∷ Aligned base ∷ Inside S base n ∷ from_host S base n
+
+-- what is known of a convert that all checks let pass
+record Passed (G : Ground) (S : State) (base n : ℕ) : Type 0 where
+  inside : base / 4096 + n ≤ G.pages
+  hosts : every is_host (base / 4096) n S.pages ≡ true
+  unshared : list_any (in_run (base / 4096) n) (shared_pages S) ≡ false
+
+module _ (words : List ℕ) (G : Ground) (hart base n : ℕ) (ready : IsReady words G)
+    (told : (S : State) → Stands words G S → (u : Unit {0}) × (Ok u ≡ all_checked (convert_checks S base n))) where
+  passed : (S : State) → Stands words G S → Passed G S base n
+  passed S stands =
+      let all = told S stands in
+      let one = first_passes (Count n) (Aligned base ∷ Inside S base n ∷ from_host S base n) all.0 (sym all.1) in
+      let two = first_passes (Aligned base) (Inside S base n ∷ from_host S base n) all.0 one.1 in
+      let three = first_passes (Inside S base n) (from_host S base n) all.0 two.1 in
+      let four = first_passes (AllHost S base n) (NoneShared S base n ∷ []) all.0 three.1 in
+      let five = first_passes (NoneShared S base n) [] all.0 four.1 in
+      let long = stands.words_stand.stands.owners.page_count in
+      record {
+        inside = subst (λ pages. base / 4096 + n ≤ pages) long (ltb-false (length S.pages) (base / 4096 + n) three.0);
+        hosts = not-false (every is_host (base / 4096) n S.pages) four.0;
+        unshared = five.0;
+      }
+
+  here : Passed G ready.state base n
+  here = passed ready.state ready.stands
+
+  stores_lawful : AllAllowed (IsLawful G.pages G.harts hart words) words (convert_stores G.pages words base n)
+  stores_lawful =
+      convert_is_lawful G.pages G.harts words hart base n here.inside
+      (unshared_words words G ready.state (base / 4096) n ready.stands here.inside here.hosts here.unshared)
+
+  -- the stores are lawful, and so allowed where every lawful store is
+  pub convert_allowed : (allows : List ℕ → ℕ → ℕ → Type 0) → AllowsLawful allows G.pages G.harts hart words
+      → AllAllowed allows words (convert_stores G.pages words base n)
+  convert_allowed allows lawful =
+      AllAllowed-weaker (IsLawful G.pages G.harts hart words) allows words (convert_stores G.pages words base n) lawful stores_lawful
+
+  behind : (at : ℕ) → G.pages ≤ at → get_or (stored words (convert_stores G.pages words base n)) at 0 ≡ get_or words at 0
+  behind at past =
+      let fits = here.inside in get_or-fills_other words (base / 4096) n (converting (epoch_in G.pages words)) at (inr (omega arith))
+
+  pub convert_accepted : Called hart (Convert base n) words (stored words (convert_stores G.pages words base n)) G G (record { status = Success; value = 0 })
+  convert_accepted =
+      accepts hart (Convert base n) words G G (convert_stores G.pages words base n) stores_lawful
+      (λ most within. stays_within G.pages G.harts words (stored words (convert_stores G.pages words base n)) most behind within)
+      (behind (count_word G.pages G.harts) (omega arith))
+      (λ S met stands.
+      let all = told S stands in
+      let pages = passed S stands in
+      record {
+        none = none_fails (convert_checks S base n) all.0 (sym all.1);
+        value = refl;
+        stands = ground_converts words G S hart base n ready.some_hart pages.inside pages.hosts stands;
+      })

@@ -1,0 +1,36 @@
+-- What a call leaves that every check lets pass, by its stores.
+use Rattle.std.proofs.Common.{◌≡◌, ◌≤◌, ℕ, List, get_or, Ok, sym, arith}
+use Rattle.cove_base.specs.Places.{count_word, epoch_word, tvm_word}
+use Rattle.cove_base.specs.Stores.{AllAllowed, stored}
+use Rattle.cove_base.specs.declared.calls.HostCall.{HostCall}
+use Rattle.cove_base.specs.declared.statuses.Status.TheVariants.{Success}
+use Rattle.cove_host.proofs.AcceptedCalls.{accepts, rises_within}
+use Rattle.cove_host.proofs.CheckedLemmas.{none_fails}
+use Rattle.cove_host.specs.Called.{Called, IsMet}
+use Rattle.cove_host.specs.Checked.{all_checked}
+use Rattle.cove_model.specs.HostCalls.{rule}
+use Rattle.cove_model.specs.LawfulStores.{IsLawful}
+use Rattle.cove_model.specs.States.{State}
+use Rattle.cove_tvm.specs.Stands.{Stands}
+use Rattle.cove_tvm.specs.declared.ground.Ground.{Ground}
+
+-- every check passes in every state that words and ground stand for
+abbrev pub AllPass : (hart : ℕ) → HostCall → List ℕ → Ground → Type 0
+AllPass hart call words G = (S : State) → Stands words G S → (u : Unit {0}) × (Ok u ≡ all_checked (rule S hart call).checks)
+
+-- its stores are lawful and leave the words behind the tables, and it has no value
+pub passed_call : (hart : ℕ) (call : HostCall) (words : List ℕ) (G H : Ground) (ss : List (ℕ × ℕ)) → AllPass hart call words G
+    → ((S : State) → IsMet S → Stands words G S → Stands (stored words ss) H (rule S hart call).outcome.state)
+    → ((S : State) → (rule S hart call).outcome.value ≡ 0)
+    → AllAllowed (IsLawful G.pages G.harts hart words) words ss
+    → ((at : ℕ) → epoch_word G.pages ≤ at → get_or (stored words ss) at 0 ≡ get_or words at 0)
+    → Called hart call words (stored words ss) G H (record { status = Success; value = 0 })
+passed_call hart call words G H ss told after none lawful behind =
+    accepts hart call words G H ss lawful
+    (λ most within.
+    let epoch = behind (epoch_word G.pages) (omega arith) in
+    rises_within G.pages G.harts words (stored words ss) most (omega arith) (λ t. behind (tvm_word G.pages G.harts t) (omega arith)) within)
+    (behind (count_word G.pages G.harts) (omega arith))
+    (λ S met stands.
+    let one = told S stands in
+    record { none = none_fails (rule S hart call).checks one.0 (sym one.1); value = none S; stands = after S met stands })

@@ -1,0 +1,200 @@
+-- The checks and the outcome of a call that adds a region.
+use Rattle.std.proofs.Common.{◌≡◌, ◌↔◌, ◌-◌, ◌+◌, ◌/◌, ◌%◌, ◌^◌, ◌<◌, ◌≤◌, ◌∙◌, ℕ, zero, suc, false, List, [], ◌∷◌, ◌++◌, length, Option, Some, None, Result, Ok, Err, refl, sym, ap, subst, inl, inr, arith, nat_le, leb-false}
+use Rattle.std.proofs.lemmas.Bool.{or_cases}
+use Rattle.std.proofs.lemmas.Bool.Decides.{nat_tests}
+use Rattle.std.proofs.lemmas.List.{length-map}
+use Rattle.std.proofs.lemmas.List.Folds.{list_any-append}
+use Rattle.std.proofs.lemmas.Option.{none-some}
+use Rattle.std.specs.List.{list_any}
+use Rattle.std.specs.Prelude.{IsTrue, OnOk, unwrap_or}
+use Rattle.cove_base.specs.declared.calls.HostCall.TheVariants.{Region}
+use Rattle.cove_base.specs.declared.limits.TheConstants.{REGION_LIMIT}
+use Rattle.cove_base.specs.declared.statuses.Status.TheVariants.{Success}
+use Rattle.cove_host.proofs.PassedCalls.{AllPass, passed_call}
+use Rattle.cove_host.proofs.CheckedLemmas.{first_passes, passes}
+use Rattle.cove_host.proofs.LifeTold.{both_live}
+use Rattle.cove_host.specs.Called.{Called}
+use Rattle.cove_host.specs.Checked.{all_checked, checked}
+use Rattle.cove_host.specs.MoreRegions.{AddsRegion, HasRegion, has_all_regions, meets_region}
+use Rattle.cove_model.specs.Checks.{IsArea, IsBuilding, Live, NoOverlap, RoomForRegion}
+use Rattle.cove_model.specs.GuestPages.{meets}
+use Rattle.cove_model.specs.HostCalls.{rule}
+use Rattle.cove_model.specs.Refusals.{Aligned, Check}
+use Rattle.cove_model.specs.States.{State, find_tvm}
+use Rattle.cove_model.specs.Tvms.{Tvm as ModelTvm, new_tvm}
+use Rattle.cove_region.proofs.StandingLemmas.{added-stand, meets-stand, outside-free}
+use Rattle.cove_region.specs.GuestMaps.{AreAll, AreMade, GuestMap, covers, has, pages_from}
+use Rattle.cove_region.specs.Standing.{StandFor, area_of}
+use Rattle.cove_region.specs.declared.kinds.AreaKind.TheVariants.{Outside, Private}
+use Rattle.cove_region.specs.declared.regions.RegionFault.{RegionFault}
+use Rattle.cove_region.specs.declared.regions.RegionFault.TheVariants.{Overlap, NotInside, Full}
+use Rattle.cove_tvm.proofs.BuiltRegions.{live_stands, region_stands}
+use Rattle.cove_tvm.specs.BuiltTvms.{with_region}
+use Rattle.cove_tvm.specs.Stands.{Stands}
+use Rattle.cove_tvm.specs.TvmLends.{with_tvm}
+use Rattle.cove_tvm.specs.TvmStands.{TvmStands}
+use Rattle.cove_tvm.specs.TvmTables.{live_at}
+use Rattle.cove_tvm.specs.declared.ground.Ground.{Ground}
+use Rattle.cove_tvm.specs.declared.machines.Tvm.{Tvm}
+
+-- ---- what the regions of the ground tell
+
+many_told : (guests : GuestMap) (model : ModelTvm) → StandFor guests model → length guests.regions ≡ length model.regions
+many_told guests model stands = ap length stands.regions ∙ length-map model.regions area_of
+
+module _ (words : List ℕ) (G : Ground) (S : State) (t : ℕ) where
+  pub overlap_told : (first n : ℕ) (x : Option Tvm) (v : Option ModelTvm) → TvmStands G.pages G.harts words t S.seats G.files x v
+      → meets_region x first n ≡ list_any (meets first n) (unwrap_or v (new_tvm t)).regions
+  overlap_told first n None None stands = refl
+  overlap_told first n None (Some model) stands = absurd stands
+  overlap_told first n (Some tvm) None stands = absurd stands
+  overlap_told first n (Some tvm) (Some model) stands = meets-stand tvm.regions model stands.fields.regions first n
+
+  pub room_told : (x : Option Tvm) (v : Option ModelTvm) → TvmStands G.pages G.harts words t S.seats G.files x v
+      → has_all_regions x ≡ nat_le REGION_LIMIT (length (unwrap_or v (new_tvm t)).regions)
+  room_told None None stands = refl
+  room_told None (Some model) stands = absurd stands
+  room_told (Some tvm) None stands = absurd stands
+  room_told (Some tvm) (Some model) stands = ap (nat_le REGION_LIMIT) (many_told tvm.regions model stands.fields.regions)
+
+-- a region is added where it overlaps none and there is room
+pub region_added : (result : Result (Unit {0}) RegionFault) (first n : ℕ) (old new : GuestMap)
+    → (result ≡ Err Overlap) ↔ (AreAll old Outside (pages_from first n) → ⊥)
+    → (result ≡ Err Full) ↔ (AreAll old Outside (pages_from first n) × (REGION_LIMIT ≤ length old.regions))
+    → ((result ≡ Err NotInside) → ⊥) → OnOk result (new.regions ≡ old.regions ++ pages_from first n ∷ [])
+    → OnOk result (AreMade Private (pages_from first n) old new)
+    → AreAll old Outside (pages_from first n) → length old.regions < REGION_LIMIT → HasRegion first n old new
+region_added (Ok u) first n old new overlap full only regions kinds all room = record { regions = regions; kinds = kinds }
+region_added (Err Overlap) first n old new overlap full only regions kinds all room = absurd (overlap.0 refl all)
+region_added (Err NotInside) first n old new overlap full only regions kinds all room = absurd (only refl)
+region_added (Err Full) first n old new overlap full only regions kinds all room = absurd (let many = (full.0 refl).1 in omega arith)
+
+-- ---- the checks from each on
+
+abbrev pub from_overlap : State → (t gpa len : ℕ) → List Check
+from_overlap S t gpa len = NoOverlap S t gpa len ∷ RoomForRegion S t ∷ []
+
+abbrev pub from_aligned : State → (t gpa len : ℕ) → List Check
+from_aligned S t gpa len = Aligned gpa ∷ Aligned len ∷ IsArea gpa len ∷ from_overlap S t gpa len
+
+abbrev pub region_checks : State → (t gpa len : ℕ) → List Check
+region_checks S t gpa len = Live S t ∷ IsBuilding S t ∷ from_aligned S t gpa len
+
+pub one_passes : (S : State) (t gpa len : ℕ) (a : Unit {0}) → Ok a ≡ checked (Live S t)
+    → all_checked (region_checks S t gpa len) ≡ all_checked (IsBuilding S t ∷ from_aligned S t gpa len)
+one_passes S t gpa len a first = passes (Live S t) (IsBuilding S t ∷ from_aligned S t gpa len) (Ok a) a first refl
+
+pub two_pass : (S : State) (t gpa len : ℕ) (a b : Unit {0}) → Ok a ≡ checked (Live S t) → Ok b ≡ checked (IsBuilding S t)
+    → all_checked (region_checks S t gpa len) ≡ all_checked (from_aligned S t gpa len)
+two_pass S t gpa len a b first second = one_passes S t gpa len a first ∙ passes (IsBuilding S t) (from_aligned S t gpa len) (Ok b) b second refl
+
+pub five_pass : (S : State) (t gpa len : ℕ) (a b c d e : Unit {0}) → Ok a ≡ checked (Live S t) → Ok b ≡ checked (IsBuilding S t)
+    → Ok c ≡ checked (Aligned gpa) → Ok d ≡ checked (Aligned len) → Ok e ≡ checked (IsArea gpa len)
+    → all_checked (region_checks S t gpa len) ≡ all_checked (from_overlap S t gpa len)
+five_pass S t gpa len a b c d e first second third fourth fifth =
+    two_pass S t gpa len a b first second
+    ∙ passes (Aligned gpa) (Aligned len ∷ IsArea gpa len ∷ from_overlap S t gpa len) (Ok c) c third refl
+    ∙ passes (Aligned len) (IsArea gpa len ∷ from_overlap S t gpa len) (Ok d) d fourth refl
+    ∙ passes (IsArea gpa len) (from_overlap S t gpa len) (Ok e) e fifth refl
+
+pub six_pass : (S : State) (t gpa len : ℕ) (a b c d e f : Unit {0}) → Ok a ≡ checked (Live S t) → Ok b ≡ checked (IsBuilding S t)
+    → Ok c ≡ checked (Aligned gpa) → Ok d ≡ checked (Aligned len) → Ok e ≡ checked (IsArea gpa len) → Ok f ≡ checked (NoOverlap S t gpa len)
+    → all_checked (region_checks S t gpa len) ≡ all_checked (RoomForRegion S t ∷ [])
+six_pass S t gpa len a b c d e f first second third fourth fifth sixth =
+    five_pass S t gpa len a b c d e first second third fourth fifth
+    ∙ passes (NoOverlap S t gpa len) (RoomForRegion S t ∷ []) (Ok f) f sixth refl
+
+-- an address that is aligned
+pub whole : (address : ℕ) → (Aligned address).fails ≡ false → address % 4096 ≡ 0
+whole address passed = grind (arith, nat_tests)
+
+pub area_is : (gpa len : ℕ) → (IsArea gpa len).fails ≡ false → (0 < len) × (gpa + len ≤ 2 ^ 41)
+area_is gpa len passed = grind (arith, nat_tests)
+
+-- what is known of a call that all checks let pass
+record Passed (words : List ℕ) (G : Ground) (S : State) (t gpa len : ℕ) : Type 0 where
+  old : Tvm
+  model : ModelTvm
+  live : live_at G.tvms t ≡ Some old
+  found : find_tvm S t ≡ Some model
+  begins : gpa % 4096 ≡ 0
+  lasts : len % 4096 ≡ 0
+  some : 0 < len
+  within : gpa + len ≤ 2 ^ 41
+  apart : list_any (meets (gpa / 4096) (len / 4096)) model.regions ≡ false
+  room : length model.regions < REGION_LIMIT
+
+passed : (words : List ℕ) (G : Ground) (S : State) (t gpa len : ℕ) (u : Unit {0}) → Stands words G S → all_checked (region_checks S t gpa len) ≡ Ok u
+    → Passed words G S t gpa len
+passed words G S t gpa len u stands e =
+    let one = first_passes (Live S t) (IsBuilding S t ∷ from_aligned S t gpa len) u e in
+    let two = first_passes (IsBuilding S t) (from_aligned S t gpa len) u one.1 in
+    let three = first_passes (Aligned gpa) (Aligned len ∷ IsArea gpa len ∷ from_overlap S t gpa len) u two.1 in
+    let four = first_passes (Aligned len) (IsArea gpa len ∷ from_overlap S t gpa len) u three.1 in
+    let five = first_passes (IsArea gpa len) (from_overlap S t gpa len) u four.1 in
+    let six = first_passes (NoOverlap S t gpa len) (RoomForRegion S t ∷ []) u five.1 in
+    let seven = first_passes (RoomForRegion S t) [] u six.1 in
+    let both = both_live words G S t (live_at G.tvms t) (find_tvm S t) (stands.tvm t) one.0 in
+    let area = area_is gpa len five.0 in
+    record {
+      old = both.0;
+      model = both.1;
+      live = both.2;
+      found = both.3;
+      begins = whole gpa three.0;
+      lasts = whole len four.0;
+      some = area.0;
+      within = area.1;
+      apart = ap (λ v. list_any (meets (gpa / 4096) (len / 4096)) (unwrap_or v (new_tvm t)).regions) (sym both.3) ∙ six.0;
+      room =
+          leb-false REGION_LIMIT (length both.1.regions)
+          (ap (λ v. nat_le REGION_LIMIT (length (unwrap_or v (new_tvm t)).regions)) (sym both.3) ∙ seven.0);
+    }
+
+module _ (words : List ℕ) (G H : Ground) (hart gpa len : ℕ) where
+  abbrev Adds : (t : ℕ) → Type 0
+  Adds t =
+      (old : Tvm) → live_at G.tvms t ≡ Some old
+      → (new : Tvm) × AddsRegion (gpa / 4096) (len / 4096) old new × (H ≡ record G { tvms = with_tvm G.tvms (t - 1) new })
+
+  -- the guest pages of the regions stay within the tables
+  near : (old new : GuestMap) → gpa + len ≤ 2 ^ 41 → gpa % 4096 ≡ 0 → len % 4096 ≡ 0 → new.regions ≡ old.regions ++ pages_from (gpa / 4096) (len / 4096) ∷ []
+      → ((g : ℕ) → IsTrue (covers old.regions g) → g < 2 ^ 29) → (g : ℕ) → IsTrue (covers new.regions g) → g < 2 ^ 29
+  near old new within begins lasts grown before g there =
+      elim (or_cases (covers old.regions g) (covers (pages_from (gpa / 4096) (len / 4096) ∷ []) g)
+      (sym (ap (λ areas. covers areas g) grown ∙ list_any-append (has g) old.regions (pages_from (gpa / 4096) (len / 4096) ∷ [])) ∙ there)) [
+        | inl was ↦ before g was
+        | inr now ↦ grind (arith, nat_tests)
+      ]
+
+  after : (t : ℕ) (S : State) → Stands words G S → Passed words G S t gpa len → Adds t → Stands words H (rule S hart (Region t gpa len)).outcome.state
+  after zero S stands one adds = absurd (none-some one.old one.live)
+  after (suc k) S stands one adds =
+      let done = adds one.old one.live in
+      let new = done.0 in
+      let before : suc k - 1 ≡ k = omega arith in
+      let begins = one.begins in
+      let lasts = one.lasts in
+      let some_len = one.some in
+      let some : 0 < len / 4096 = omega arith in
+      let was = live_stands words G S (suc k) one.old one.model stands one.live one.found in
+      let regions = was.fields.regions in
+      let outside : AreAll one.old.regions Outside (pages_from (gpa / 4096) (len / 4096)) =
+      outside-free one.old.regions one.model regions (gpa / 4096) (len / 4096) one.apart in
+      let room : length one.old.regions.regions < REGION_LIMIT =
+      subst (λ n. n < REGION_LIMIT) (sym (many_told one.old.regions one.model regions)) one.room in
+      let has = done.1.added outside room in
+      subst (λ ground. Stands words ground (rule S hart (Region (suc k) gpa len)).outcome.state) (sym done.2)
+      (subst (λ n. Stands words (record G { tvms = with_tvm G.tvms n new }) (rule S hart (Region (suc k) gpa len)).outcome.state) (sym before)
+      (subst (λ one. Stands words (record G { tvms = with_tvm G.tvms k one }) (rule S hart (Region (suc k) gpa len)).outcome.state) (sym done.1.rest)
+      (region_stands k words G S hart gpa len one.old one.model new.regions stands one.live one.found
+      (added-stand one.old.regions new.regions one.model (with_region gpa len one.model) regions (gpa / 4096) (len / 4096) some one.apart has.kinds has.regions refl refl)
+      (near one.old.regions new.regions one.within one.begins one.lasts has.regions was.fields.near))))
+
+  -- an accepted call, by what the code leaves
+  pub adds_region : (t : ℕ) → AllPass hart (Region t gpa len) words G → Adds t
+      → Called hart (Region t gpa len) words words G H (record { status = Success; value = 0 })
+  adds_region t told adds =
+      passed_call hart (Region t gpa len) words G H [] told
+      (λ S met stands. let one = told S stands in after t S stands (passed words G S t gpa len one.0 stands (sym one.1)) adds)
+      (λ S. refl) tt (λ at past. refl)

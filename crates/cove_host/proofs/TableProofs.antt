@@ -1,0 +1,139 @@
+-- The outcome of a call that gives a TVM more table pages.
+use Rattle.std.proofs.Common.{◌≡◌, ◌-◌, ◌+◌, ◌/◌, ◌≤◌, ◌∙◌, ℕ, zero, suc, true, List, [], ◌∷◌, get_or, length, Some, Ok, refl, sym, subst, inr, arith}
+use Rattle.std.proofs.lemmas.Bool.{ltb-false, not-false}
+use Rattle.std.proofs.lemmas.Option.{none-some, same_Some}
+use Rattle.cove_base.proofs.StoreLemmas.{AllAllowed-weaker, get_or-fills_other}
+use Rattle.cove_base.specs.PageWords.{given}
+use Rattle.cove_base.specs.Stores.{AllAllowed, stored}
+use Rattle.cove_base.specs.declared.calls.HostCall.TheVariants.{Tables}
+use Rattle.cove_base.specs.declared.numbers.Role.TheVariants.{Table}
+use Rattle.cove_base.specs.declared.statuses.Status.TheVariants.{Success}
+use Rattle.cove_host.proofs.PassedCalls.{AllPass, passed_call}
+use Rattle.cove_host.proofs.CheckedLemmas.{first_passes, passes}
+use Rattle.cove_host.proofs.LifeTold.{both_live}
+use Rattle.cove_host.specs.Called.{Called, IsReady}
+use Rattle.cove_host.specs.Checked.{all_checked, checked}
+use Rattle.cove_model.specs.Checks.{AllFree, Inside, Live}
+use Rattle.cove_model.specs.HostCalls.{rule}
+use Rattle.cove_model.specs.LawfulStores.{AllowsLawful, IsLawful}
+use Rattle.cove_model.specs.Owners.{every, is_free}
+use Rattle.cove_model.specs.Refusals.{Aligned, Check, Count}
+use Rattle.cove_model.specs.States.{State, find_tvm}
+use Rattle.cove_model.specs.Tvms.{Tvm as ModelTvm}
+use Rattle.cove_tvm.proofs.GivenTables.{tables_are_lawful, tables_fit, tables_stand}
+use Rattle.cove_tvm.specs.GivenRuns.{MayGive}
+use Rattle.cove_tvm.specs.MoreTables.{AddsTables, tables_stores}
+use Rattle.cove_tvm.specs.Stands.{Stands}
+use Rattle.cove_tvm.specs.TvmLends.{with_tvm}
+use Rattle.cove_tvm.specs.TvmTables.{live_at}
+use Rattle.cove_tvm.specs.declared.ground.Ground.{Ground}
+use Rattle.cove_tvm.specs.declared.machines.Tvm.{Tvm}
+
+-- the checks from each on
+abbrev pub from_inside : State → (base n : ℕ) → List Check
+from_inside S base n = Inside S base n ∷ AllFree S base n ∷ []
+
+abbrev pub from_count : State → (base n : ℕ) → List Check
+from_count S base n = Count n ∷ Aligned base ∷ from_inside S base n
+
+abbrev pub tables_checks : State → (t base n : ℕ) → List Check
+tables_checks S t base n = Live S t ∷ from_count S base n
+
+-- where the first three or four pass, those after them answer
+pub three_pass : (S : State) (t base n : ℕ) (a b c : Unit {0}) → Ok a ≡ checked (Live S t) → Ok b ≡ checked (Count n) → Ok c ≡ checked (Aligned base)
+    → all_checked (tables_checks S t base n) ≡ all_checked (from_inside S base n)
+three_pass S t base n a b c first second third =
+    passes (Live S t) (from_count S base n) (Ok a) a first refl
+    ∙ passes (Count n) (Aligned base ∷ from_inside S base n) (Ok b) b second refl
+    ∙ passes (Aligned base) (from_inside S base n) (Ok c) c third refl
+
+pub four_pass : (S : State) (t base n : ℕ) (a b c d : Unit {0}) → Ok a ≡ checked (Live S t) → Ok b ≡ checked (Count n) → Ok c ≡ checked (Aligned base)
+    → Ok d ≡ checked (Inside S base n) → all_checked (tables_checks S t base n) ≡ all_checked (AllFree S base n ∷ [])
+four_pass S t base n a b c d first second third fourth =
+    three_pass S t base n a b c first second third ∙ passes (Inside S base n) (AllFree S base n ∷ []) (Ok d) d fourth refl
+
+-- what is known of a call that all checks let pass
+record Passed (words : List ℕ) (G : Ground) (S : State) (t base n : ℕ) : Type 0 where
+  old : Tvm
+  model : ModelTvm
+  live : live_at G.tvms t ≡ Some old
+  found : find_tvm S t ≡ Some model
+  inside : base / 4096 + n ≤ G.pages
+  free : every is_free (base / 4096) n S.pages ≡ true
+
+passed : (words : List ℕ) (G : Ground) (S : State) (t base n : ℕ) (u : Unit {0}) → Stands words G S → all_checked (tables_checks S t base n) ≡ Ok u
+    → Passed words G S t base n
+passed words G S t base n u stands e =
+    let one = first_passes (Live S t) (from_count S base n) u e in
+    let two = first_passes (Count n) (Aligned base ∷ from_inside S base n) u one.1 in
+    let three = first_passes (Aligned base) (from_inside S base n) u two.1 in
+    let four = first_passes (Inside S base n) (AllFree S base n ∷ []) u three.1 in
+    let five = first_passes (AllFree S base n) [] u four.1 in
+    let both = both_live words G S t (live_at G.tvms t) (find_tvm S t) (stands.tvm t) one.0 in
+    let long = stands.words_stand.stands.owners.page_count in
+    record {
+      old = both.0;
+      model = both.1;
+      live = both.2;
+      found = both.3;
+      inside = subst (λ m. base / 4096 + n ≤ m) long (ltb-false (length S.pages) (base / 4096 + n) four.0);
+      free = not-false (every is_free (base / 4096) n S.pages) five.0;
+    }
+
+module _ (words : List ℕ) (G : Ground) (hart base n : ℕ) (ready : IsReady words G) where
+  pass : (t : ℕ) → AllPass hart (Tables t base n) words G → (S : State) → Stands words G S → Passed words G S t base n
+  pass t told S stands = let one = told S stands in passed words G S t base n one.0 stands (sym one.1)
+
+  -- the pages are on the board
+  pages_inside : (t : ℕ) → AllPass hart (Tables t base n) words G → base / 4096 + n ≤ G.pages
+  pages_inside t told = (pass t told ready.state ready.stands).inside
+
+  may : (k : ℕ) (S : State) (stands : Stands words G S) (one : Passed words G S (suc k) base n) → MayGive words G S k base n one.old one.model
+  may k S stands one = record { stands = stands; live = one.live; found = one.found; inside = one.inside; free = one.free }
+
+  stores_lawful : (t : ℕ) → AllPass hart (Tables t base n) words G → AllAllowed (IsLawful G.pages G.harts hart words) words (tables_stores t base n)
+  stores_lawful zero told = let one = pass 0 told ready.state ready.stands in absurd (none-some one.old one.live)
+  stores_lawful (suc k) told =
+      let one = pass (suc k) told ready.state ready.stands in
+      tables_are_lawful k words G ready.state hart base n one.old one.model (may k ready.state ready.stands one)
+
+  -- and so allowed where every lawful store is
+  pub stores_allowed : (allows : List ℕ → ℕ → ℕ → Type 0) → AllowsLawful allows G.pages G.harts hart words → (t : ℕ) → AllPass hart (Tables t base n) words G
+      → AllAllowed allows words (tables_stores t base n)
+  stores_allowed allows lawful t told =
+      AllAllowed-weaker (IsLawful G.pages G.harts hart words) allows words (tables_stores t base n) lawful (stores_lawful t told)
+
+  -- the pool has room for them
+  pub pool_room : (t : ℕ) → AllPass hart (Tables t base n) words G → (tvm : Tvm) → live_at G.tvms t ≡ Some tvm → length tvm.pool.pages + n ≤ tvm.pool.room
+  pool_room zero told tvm live = absurd (none-some tvm live)
+  pool_room (suc k) told tvm live =
+      let one = pass (suc k) told ready.state ready.stands in
+      subst (λ (x : Tvm). length x.pool.pages + n ≤ x.pool.room) (same_Some one.old tvm (sym one.live ∙ live))
+      (tables_fit k words G ready.state base n one.old one.model (may k ready.state ready.stands one))
+
+  module _ (H : Ground) where
+    abbrev Adds : (t : ℕ) → Type 0
+    Adds t =
+        (old : Tvm) → live_at G.tvms t ≡ Some old
+        → (new : Tvm) × AddsTables base n old new × (H ≡ record G { tvms = with_tvm G.tvms (t - 1) new })
+
+    after : (t : ℕ) (S : State) (stands : Stands words G S) → Passed words G S t base n → Adds t
+        → Stands (stored words (tables_stores t base n)) H (rule S hart (Tables t base n)).outcome.state
+    after zero S stands one adds = absurd (none-some one.old one.live)
+    after (suc k) S stands one adds =
+        let done = adds one.old one.live in
+        let before : suc k - 1 ≡ k = omega arith in
+        subst (λ ground. Stands (stored words (tables_stores (suc k) base n)) ground (rule S hart (Tables (suc k) base n)).outcome.state) (sym done.2)
+        (subst (λ m. Stands (stored words (tables_stores (suc k) base n)) (record G { tvms = with_tvm G.tvms m done.0 }) (rule S hart (Tables (suc k) base n)).outcome.state) (sym before)
+        (tables_stand k words G S hart base n one.old done.0 one.model (may k S stands one) done.1))
+
+    behind : (t : ℕ) → AllPass hart (Tables t base n) words G → (at : ℕ) → G.pages ≤ at → get_or (stored words (tables_stores t base n)) at 0 ≡ get_or words at 0
+    behind t told at past = let inside = pages_inside t told in get_or-fills_other words (base / 4096) n (given t Table) at (inr (omega arith))
+
+    -- an accepted call, by what the code leaves
+    pub adds_tables : (t : ℕ) (new : List ℕ) → AllPass hart (Tables t base n) words G → Adds t → new ≡ stored words (tables_stores t base n)
+        → Called hart (Tables t base n) words new G H (record { status = Success; value = 0 })
+    adds_tables t new told adds stores =
+        subst (λ ws. Called hart (Tables t base n) words ws G H (record { status = Success; value = 0 })) (sym stores)
+        (passed_call hart (Tables t base n) words G H (tables_stores t base n) told (λ S met stands. after t S stands (pass t told S stands) adds) (λ S. refl)
+        (stores_lawful t told) (λ at past. behind t told at (omega arith)))

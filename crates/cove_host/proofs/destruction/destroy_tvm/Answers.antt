@@ -1,0 +1,21 @@
+use Rattle.cove_base.specs.declared.calls.HostCall.TheVariants.{Destroy}
+use Rattle.cove_host.proofs.Creating.{refuses}
+use Rattle.cove_host.proofs.Ending.{destroys_tvm, may_end}
+use Rattle.cove_host.proofs.destruction.destroy_tvm.Goals as goal
+
+pub returns-in-Err-clause-called : goal.returns-in-Err-clause-called
+returns-in-Err-clause-called g c =
+    rw c.in-Err.ensures.unchanged.words
+    (refuses c.args.h.0 (Destroy c.args.t) _ _ c.in-Err.reply (c.in-Err.ensures.told c.args.h.0))
+
+pub returns-in-Ok-clause-called : goal.returns-in-Ok-clause-called
+returns-in-Ok-clause-called g c =
+    destroys_tvm _ _ c.args.h.0 c.args.t c.requires.ready c.in-Ok.ensures.outside _ _
+    (λ S stands. (c.in-Ok.field-0, c.in-Ok.ensures.told c.args.h.0 S stands)) (rw c.in-Ok.ensures.unchanged.words at c.end.ensures.ended)
+
+pub end-requires : goal.end-requires
+end-requires g c = record {
+  ending = λ tvm live.
+      rw (c.in-Ok.ensures.unchanged.guard, c.in-Ok.ensures.unchanged.words)
+      (may_end _ _ c.args.h.0 c.args.t c.requires.ready c.in-Ok.ensures.outside _ c.requires.allowed tvm live);
+}

@@ -1,0 +1,21 @@
+use Rattle.cove_base.specs.declared.calls.HostCall.TheVariants.{Reclaim}
+use Rattle.cove_host.proofs.Creating.{refuses}
+use Rattle.cove_host.proofs.Reclaiming.{reclaim_accepted, reclaim_allowed}
+use Rattle.cove_host.proofs.owners.reclaim_pages.Goals as goal
+
+pub give_back-requires-clause-allowed : goal.give_back-requires-clause-allowed
+give_back-requires-clause-allowed g c =
+    let same = c.in-Ok.ensures.unchanged in
+    rw (same.guard, same.words, c.pages_from-range.ensures.first, c.pages_from-range.ensures.count)
+    (reclaim_allowed _ _ c.args.h.0 c.args.base c.args.n c.requires.ready (λ S stands. (c.in-Ok.field-0, c.in-Ok.ensures.told c.args.h.0 S stands)) _
+    c.requires.allowed)
+
+pub returns-in-Err-clause-called : goal.returns-in-Err-clause-called
+returns-in-Err-clause-called g c =
+    rw c.in-Err.ensures.unchanged.words
+    (refuses c.args.h.0 (Reclaim c.args.base c.args.n) _ _ c.in-Err.reply (c.in-Err.ensures.told c.args.h.0))
+
+pub returns-in-Ok-clause-called : goal.returns-in-Ok-clause-called
+returns-in-Ok-clause-called g c =
+    rw (c.give_back.ensures.words, c.zero_all.ensures.memory, c.in-Ok.ensures.unchanged.words, c.pages_from-range.ensures.first, c.pages_from-range.ensures.count)
+    (reclaim_accepted _ _ c.args.h.0 c.args.base c.args.n c.requires.ready (λ S stands. (c.in-Ok.field-0, c.in-Ok.ensures.told c.args.h.0 S stands)))

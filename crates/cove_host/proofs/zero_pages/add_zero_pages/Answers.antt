@@ -1,0 +1,38 @@
+use Rattle.cove_base.specs.declared.calls.HostCall.TheVariants.{Zero}
+use Rattle.cove_host.proofs.Creating.{refuses}
+use Rattle.cove_host.proofs.FilledFrames.{zeros_are}
+use Rattle.cove_host.proofs.GrowingTvm.{adds_zero, run_allowed, stores_allowed, zero_grows}
+use Rattle.cove_host.proofs.zero_pages.add_zero_pages.Goals as goal
+
+pub give_zeros-requires-clause-allowed : goal.give_zeros-requires-clause-allowed
+give_zeros-requires-clause-allowed g c =
+    let same = c.in-Ok.ensures.unchanged in
+    let near = c.in-Ok.ensures.near in
+    rw (same.guard, same.words)
+    (stores_allowed _ _ c.requires.ready c.args.base c.args.n c.args.gpa near c.args.h.0 c.args.t
+    (zero_grows _ _ c.requires.ready c.args.base c.args.n c.args.gpa near c.args.t (λ S stands. (c.in-Ok.field-0, c.in-Ok.ensures.told c.args.h.0 S stands)))
+    _ c.requires.allowed)
+
+pub give_zeros-requires-clause-filled : goal.give_zeros-requires-clause-filled
+give_zeros-requires-clause-filled g c = zeros_are _ _ _ _ (rw c.page_of.ensures at c.zero_all.ensures)
+
+pub map_pages-requires : goal.map_pages-requires
+map_pages-requires g c = λ tvm live.
+    let same = c.in-Ok.ensures.unchanged in
+    let near = c.in-Ok.ensures.near in
+    rw (c.give_zeros.ensures.guard, c.give_zeros.ensures.words, c.page_of-in-Ok.ensures, same.guard, same.words)
+    (run_allowed _ _ c.requires.ready c.args.base c.args.n c.args.gpa near c.args.h.0 c.args.t
+    (zero_grows _ _ c.requires.ready c.args.base c.args.n c.args.gpa near c.args.t (λ S stands. (c.in-Ok.field-0, c.in-Ok.ensures.told c.args.h.0 S stands)))
+    _ c.requires.allowed tvm live)
+
+pub returns-in-Err-clause-called : goal.returns-in-Err-clause-called
+returns-in-Err-clause-called g c =
+    rw c.in-Err.ensures.unchanged.words
+    (refuses c.args.h.0 (Zero c.args.t c.args.base c.args.n c.args.gpa) _ _ c.in-Err.reply (c.in-Err.ensures.told c.args.h.0))
+
+pub returns-in-Ok-clause-called : goal.returns-in-Ok-clause-called
+returns-in-Ok-clause-called g c =
+    let same = c.in-Ok.ensures.unchanged in
+    adds_zero _ _ c.requires.ready c.args.base c.args.n c.args.gpa c.in-Ok.ensures.near c.args.h.0 _ _ _ (rw c.page_of.ensures at c.zero_all.ensures) c.args.t
+    (λ S stands. (c.in-Ok.field-0, c.in-Ok.ensures.told c.args.h.0 S stands))
+    (rw (c.page_of-in-Ok.ensures, c.give_zeros.ensures.words, same.words) at c.map_pages.ensures.mapped)

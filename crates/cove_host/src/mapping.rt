@@ -1,0 +1,115 @@
+//! Runs of guest pages that are mapped.
+
+ghost use Rattle.std.specs.Prelude.{◌≡◌, ◌+◌, ◌/◌, ◌^◌, ◌≤◌, [], ◌∷◌, OnOk, Some};
+ghost use Rattle.cove_base.specs.Unchanged.{Unchanged};
+ghost use Rattle.cove_base.specs.declared.limits.TheConstants.{RANGE_LIMIT};
+ghost use Rattle.cove_host.specs.Called.{IsReady};
+ghost use Rattle.cove_host.specs.Checked.{all_checked};
+ghost use Rattle.cove_host.specs.Mapped.{MapsIn, MapsOf, MapsRun, MayMapBy};
+ghost use Rattle.cove_model.specs.Checks.{AllPrivate, AllShared, EnoughTables, Unmapped};
+ghost use Rattle.cove_model.specs.States.{State};
+ghost use Rattle.cove_tvm.specs.Stands.{Stands};
+ghost use Rattle.cove_tvm.specs.TvmTables.{live_at};
+ghost use Rattle.cove_tvm.specs.declared.machines.Tvm.{Tvm};
+
+use crate::guest_pages::{all_private, all_shared, enough_tables, unmapped};
+use cove_base::{Gpn, Page, RANGE_LIMIT, Reply, Words};
+use cove_stage2::{Pool, Tables};
+use cove_tvm::{Ground, Tvm};
+
+/// Guest pages are private and not mapped yet, and the TVM has the tables that mappings of them need.
+pub(crate) fn may_map_private<W: Words>(
+    w: &mut W,
+    g: &Ground,
+    t: u64,
+    gpa: u64,
+    n: u64,
+) -> Result<(), Reply>
+    requires ready { IsReady (W.words w.old) g.now }
+    requires within { (1 ≤ n) × (n ≤ RANGE_LIMIT) }
+    ensures told { (S : State) → Stands (W.words w.old) g.now S
+        → result ≡ all_checked (AllPrivate S t gpa n ∷ Unmapped S t gpa n ∷ EnoughTables S t gpa n ∷ []) }
+    ensures near { OnOk result (gpa / 4096 + n ≤ 2 ^ 29) }
+    ensures unchanged { Unchanged W.words W.clean W.guard w.old w.new }
+{
+    all_private(g, t, gpa, n)?;
+    unmapped(w, g, t, gpa, n)?;
+    enough_tables(w, g, t, gpa, n)
+}
+
+/// Guest pages are shared and not mapped yet, and the TVM has the tables that mappings of them need.
+pub(crate) fn may_map_shared<W: Words>(
+    w: &mut W,
+    g: &Ground,
+    t: u64,
+    gpa: u64,
+    n: u64,
+) -> Result<(), Reply>
+    requires ready { IsReady (W.words w.old) g.now }
+    requires within { (1 ≤ n) × (n ≤ RANGE_LIMIT) }
+    ensures told { (S : State) → Stands (W.words w.old) g.now S
+        → result ≡ all_checked (AllShared S t gpa n ∷ Unmapped S t gpa n ∷ EnoughTables S t gpa n ∷ []) }
+    ensures near { OnOk result (gpa / 4096 + n ≤ 2 ^ 29) }
+    ensures unchanged { Unchanged W.words W.clean W.guard w.old w.new }
+{
+    all_shared(g, t, gpa, n)?;
+    unmapped(w, g, t, gpa, n)?;
+    enough_tables(w, g, t, gpa, n)
+}
+
+/// Maps `n` guest pages of the live TVM with a number, from `first` on, to the pages from `page` on.
+pub(crate) fn map_pages<W: Words>(
+    w: &mut W,
+    g: &mut Ground,
+    t: u64,
+    first: Gpn,
+    page: Page,
+    n: u32,
+    shared: bool,
+)
+    requires { (tvm : Tvm) → live_at g.old.tvms t ≡ Some tvm
+        → MayMapBy (W.allows (W.guard w.old)) tvm.tables.pages tvm.tables.root.0 first.0 page.0 n shared (W.words w.old) tvm.pool.pages }
+    ensures mapped { MapsOf t first.0 page.0 n shared (W.words w.old) (W.words w.new) g.old g.new }
+    ensures guard { W.guard w.new ≡ W.guard w.old }
+{
+    if let Some(tvm) = g.tvms.live_mut(t) {
+        map_into(w, tvm, first, page, n, shared);
+    }
+}
+
+/// Maps guest pages of a TVM.
+pub(crate) fn map_into<W: Words>(
+    w: &mut W,
+    tvm: &mut Tvm,
+    first: Gpn,
+    page: Page,
+    n: u32,
+    shared: bool,
+)
+    requires { MayMapBy (W.allows (W.guard w.old)) tvm.old.tables.pages tvm.old.tables.root.0 first.0 page.0 n shared (W.words w.old) tvm.old.pool.pages }
+    ensures mapped { MapsIn first.0 page.0 n shared (W.words w.old) (W.words w.new) tvm.old tvm.new }
+    ensures guard { W.guard w.new ≡ W.guard w.old }
+{
+    map_run(w, tvm.tables, first, page, n, shared, &mut tvm.pool);
+}
+
+// Maps guest pages, one after another, with tables out of the pool.
+fn map_run<W: Words>(
+    w: &mut W,
+    tables: Tables,
+    first: Gpn,
+    page: Page,
+    n: u32,
+    shared: bool,
+    pool: &mut Pool,
+)
+    requires { MayMapBy (W.allows (W.guard w.old)) tables.pages tables.root.0 first.0 page.0 n shared (W.words w.old) pool.old.pages }
+    ensures mapped { MapsRun tables.pages tables.root.0 first.0 page.0 n n shared (W.words w.old) pool.old.pages (W.words w.new) pool.new.pages }
+    ensures room { pool.new.room ≡ pool.old.room }
+    ensures guard { W.guard w.new ≡ W.guard w.old }
+{
+    for i in 0..n {
+        let g = Gpn(first.0 + i as u64);
+        tables.map(w, g, Page(page.0 + i), shared, pool);
+    }
+}

@@ -1,0 +1,419 @@
+-- How often the tables of a TVM share a page, and how often its mappings do.
+use Rattle.std.proofs.Common.{◌≡◌, ◌≢◌, ℕ, zero, suc, ◌+◌, ◌-◌, ◌*◌, ◌/◌, ◌%◌, ◌^◌, ◌<◌, ◌≤◌, ◌∙◌, ◌||◌, ◌&&◌, not, Bool, true, false, true≢false, cond, eqb, eqb-true, eq-eqb, List, [], ◌∷◌, ◌++◌, count_by, drop, get_or, length, length-set, map, min, set, take, get_or-set_other, Option, Some, None, refl, sym, ap, subst, inl, inr, ◌⊎◌, arith}
+use Rattle.std.proofs.lemmas.Bool.{cases_eq, cases_lt, ne_eqb}
+use Rattle.std.proofs.lemmas.List.{get_or-drop, get_or-take, get_or_default, length-drop, length-take}
+use Rattle.std.proofs.lemmas.List.Sums.{sum_by-append, sum_by-cons}
+use Rattle.std.proofs.lemmas.Option.{none-some, same_Some}
+use Rattle.std.specs.Prelude.{Contains, filter_map, flat_map}
+use Rattle.cove_base.proofs.TableLemmas.{below-absent}
+use Rattle.cove_base.proofs.TreeLemmas.{entry-stands, last-number, middle≢last, named-outside, root≢last}
+use Rattle.cove_base.proofs.TreeStores.{IsStoreAt, OnlyAt, leaf-store, tree-leaf}
+use Rattle.cove_base.specs.PageWords.{given}
+use Rattle.cove_base.specs.Places.{all_words, table_word}
+use Rattle.cove_base.specs.Tables.{Slot, InRoot, InMiddle, InLast, IsAbsent, IsLeaf, IsLink, NoTable, ATable, IsLinkSlot, IsSlot, IsTree, StandsAt, below, entry_at, leaf_at, next_table}
+use Rattle.cove_base.specs.declared.numbers.Role.TheVariants.{Root, Table}
+use Rattle.cove_imsic.specs.FileTables.{FileTable}
+use Rattle.cove_model.proofs.SharedLeaves.{stores_count_shared}
+use Rattle.cove_model.specs.Keyed.{at, dropped}
+use Rattle.cove_model.specs.LawfulStores.{IsTableOf}
+use Rattle.cove_model.specs.Mappings.{mapping_of, page_under}
+use Rattle.cove_model.specs.Orderly.{AreDistinct, guests_of}
+use Rattle.cove_model.specs.Owners.{has}
+use Rattle.cove_model.specs.States.{Seat, shown_page}
+use Rattle.cove_model.specs.TableLaw.{is_shared_leaf, shared_leaves, shared_once}
+use Rattle.cove_model.specs.Tvms.{Backing, HostPage, OwnPage, Mapping, Standing, Blocked, Present, Tvm as ModelTvm}
+use Rattle.cove_tvm.specs.DestroyedTvms.{Destroys}
+use Rattle.cove_tvm.specs.LeafStands.{LeafStands, StandingStands, leaf_of}
+use Rattle.cove_tvm.specs.TvmStands.{LiveStands}
+use Rattle.cove_tvm.specs.declared.machines.Tvm.{Tvm}
+
+abbrev flag : Bool → ℕ
+flag b = cond b 1 0
+
+-- how often a page is among some, and which of the host's pages mappings show
+abbrev pub times : (p : ℕ) → List ℕ → ℕ
+times p ps = count_by (λ q. eqb q p) ps
+
+abbrev pub shown : List Mapping → List ℕ
+shown ms = filter_map (λ (mapping : Mapping). shown_page mapping.backing) ms
+
+abbrev pub shown_by : ModelTvm → List ℕ
+shown_by tvm = shown tvm.mappings
+
+times_first : (p q : ℕ) (ps : List ℕ) → times p (q ∷ ps) ≡ flag (eqb q p) + times p ps
+times_first p q ps = sum_by-cons (λ k. cond (eqb k p) 1 0) q ps
+
+times_apart : (p : ℕ) (xs ys : List ℕ) → times p (xs ++ ys) ≡ times p xs + times p ys
+times_apart p xs ys = sum_by-append (λ k. cond (eqb k p) 1 0) xs ys
+
+-- ---- the state without one of its TVMs
+
+none_dropped : (t : ℕ) (tvms : List ModelTvm) → has t (map (λ (tvm : ModelTvm). tvm.number) tvms) ≡ false → dropped (λ (tvm : ModelTvm). eqb tvm.number t) tvms ≡ tvms
+none_dropped t [] e = refl
+none_dropped t (x ∷ xs) e = go (eqb x.number t) e (none_dropped t xs)
+  where
+    go : (b : Bool) → (b || has t (map (λ (tvm : ModelTvm). tvm.number) xs)) ≡ false
+        → (has t (map (λ (tvm : ModelTvm). tvm.number) xs) ≡ false → dropped (λ (tvm : ModelTvm). eqb tvm.number t) xs ≡ xs)
+        → cond (not b) (x ∷ dropped (λ (tvm : ModelTvm). eqb tvm.number t) xs) (dropped (λ (tvm : ModelTvm). eqb tvm.number t) xs) ≡ x ∷ xs
+    go true q more = absurd (true≢false q)
+    go false q more = ap (λ rest. x ∷ rest) (more q)
+
+-- the TVM that goes takes what it shows with it
+pub gone_maps : (t p : ℕ) (v : ModelTvm) (tvms : List ModelTvm) → AreDistinct (map (λ (tvm : ModelTvm). tvm.number) tvms)
+    → at (λ (tvm : ModelTvm). tvm.number) t tvms ≡ Some v
+    → times p (flat_map shown_by (dropped (λ (tvm : ModelTvm). eqb tvm.number t) tvms)) + times p (shown_by v) ≡ times p (flat_map shown_by tvms)
+gone_maps t p v [] apart found = absurd (none-some v found)
+gone_maps t p v (x ∷ xs) apart found = go (eqb x.number t) refl found (λ q. gone_maps t p v xs apart.1 q)
+  where
+    go : (b : Bool) → eqb x.number t ≡ b → cond b (Some x) (at (λ (tvm : ModelTvm). tvm.number) t xs) ≡ Some v
+        → (at (λ (tvm : ModelTvm). tvm.number) t xs ≡ Some v
+        → times p (flat_map shown_by (dropped (λ (tvm : ModelTvm). eqb tvm.number t) xs)) + times p (shown_by v) ≡ times p (flat_map shown_by xs))
+        → times p (flat_map shown_by (cond (not b) (x ∷ dropped (λ (tvm : ModelTvm). eqb tvm.number t) xs) (dropped (λ (tvm : ModelTvm). eqb tvm.number t) xs)))
+        + times p (shown_by v) ≡ times p (shown_by x ++ flat_map shown_by xs)
+    go true is e more =
+        let none = none_dropped t xs (subst (λ n. has n (map (λ (tvm : ModelTvm). tvm.number) xs) ≡ false) (eqb-true x.number t is) apart.0) in
+        let left = ap (λ list. times p (flat_map shown_by list)) none in
+        let own = ap (λ one. times p (shown_by one)) (same_Some x v e) in
+        let both = times_apart p (shown_by x) (flat_map shown_by xs) in
+        omega arith
+    go false is e more =
+        let rest = more e in
+        let all = times_apart p (shown_by x) (flat_map shown_by xs) in
+        let kept = times_apart p (shown_by x) (flat_map shown_by (dropped (λ (tvm : ModelTvm). eqb tvm.number t) xs)) in
+        omega arith
+
+-- a number that was dropped is found no more
+pub none_found : (t : ℕ) (tvms : List ModelTvm) → at (λ (tvm : ModelTvm). tvm.number) t (dropped (λ (tvm : ModelTvm). eqb tvm.number t) tvms) ≡ None
+none_found t [] = refl
+none_found t (x ∷ xs) = go (eqb x.number t) refl (none_found t xs)
+  where
+    go : (b : Bool) → eqb x.number t ≡ b
+        → at (λ (tvm : ModelTvm). tvm.number) t (dropped (λ (tvm : ModelTvm). eqb tvm.number t) xs) ≡ None
+        → at (λ (tvm : ModelTvm). tvm.number) t (cond (not b) (x ∷ dropped (λ (tvm : ModelTvm). eqb tvm.number t) xs) (dropped (λ (tvm : ModelTvm). eqb tvm.number t) xs)) ≡ None
+    go true is more = more
+    go false is more = ap (λ b. cond b (Some x) (at (λ (tvm : ModelTvm). tvm.number) t (dropped (λ (tvm : ModelTvm). eqb tvm.number t) xs))) is ∙ more
+
+-- ---- leaves that share a page
+
+pub once_is : (p word : ℕ) (b : Bool) → is_shared_leaf p word ≡ b → shared_once p word ≡ flag b
+once_is p word b e =
+    let one = sum_by-cons (λ k. cond (is_shared_leaf p k) 1 0) word [] in
+    let is = ap flag e in
+    omega arith
+
+pub not_shared : (p word r : ℕ) → word % 1024 ≡ r → (eqb r 215 || eqb r 470) ≡ false → is_shared_leaf p word ≡ false
+not_shared p word r e off =
+    ap (λ k. (eqb k 215 || eqb k 470) && eqb (word / 1024 % 2 ^ 16) p) e ∙ ap (λ b. b && eqb (word / 1024 % 2 ^ 16) p) off
+
+pub is_shared : (p page word r : ℕ) → word % 1024 ≡ r → (eqb r 215 || eqb r 470) ≡ true → word / 1024 % 2 ^ 16 ≡ page → is_shared_leaf p word ≡ eqb page p
+is_shared p page word r e on is =
+    ap (λ k. (eqb k 215 || eqb k 470) && eqb (word / 1024 % 2 ^ 16) p) e ∙ ap (λ b. b && eqb (word / 1024 % 2 ^ 16) p) on ∙ ap (λ k. eqb k p) is
+
+-- a leaf shares a page as often as its mapping does
+abbrev Shares : (p leaf : ℕ) → Option Mapping → Type 0
+Shares p leaf None = leaf ≡ 0
+Shares p leaf (Some m) = (leaf ≢ 0) × (shared_once p leaf ≡ times p (shown (m ∷ [])))
+
+shares : (pages harts : ℕ) (words : List ℕ) (t p leaf : ℕ) (mapping : Option Mapping) → pages ≤ 2 ^ 16 → LeafStands pages harts words t leaf mapping → Shares p leaf mapping
+shares pages harts words t p leaf None few stands = stands
+shares pages harts words t p leaf (Some m) few stands = go m.backing m.standing stands
+  where
+    hosts : (page : ℕ) → is_shared_leaf p leaf ≡ eqb page p → shared_once p leaf ≡ times p (page ∷ [])
+    hosts page e = let one = once_is p leaf (eqb page p) e in let two = times_first p page [] in omega arith
+
+    go : (b : Backing) (s : Standing) → (page_under b < pages) × StandingStands pages harts words t (leaf_of b) leaf s
+        → (leaf ≢ 0) × (shared_once p leaf ≡ times p (shown (record m { backing = b } ∷ [])))
+    go (OwnPage page own) Present st =
+        let is : leaf ≡ 1024 * page + 223 = st.1 in
+        (λ none. omega arith, once_is p leaf false (not_shared p leaf 223 (omega arith) refl))
+    go (OwnPage page own) (Blocked held waiting) st =
+        let is : leaf ≡ 1024 * page + 223 + 255 + 2 ^ 26 * st.1.since = st.1.is in
+        (λ none. omega arith, once_is p leaf false (not_shared p leaf 478 (omega arith) refl))
+    go (HostPage page) Present st =
+        let is : leaf ≡ 1024 * page + 215 = st.1 in
+        let on : page < pages = st.0 in
+        (λ none. omega arith, hosts page (is_shared p page leaf 215 (omega arith) refl (omega arith)))
+    go (HostPage page) (Blocked held waiting) st =
+        let is : leaf ≡ 1024 * page + 215 + 255 + 2 ^ 26 * st.1.since = st.1.is in
+        let on : page < pages = st.0 in
+        (λ none. omega arith, hosts page (is_shared p page leaf 470 (omega arith) refl (omega arith)))
+
+-- what the first mapping shows, and the others
+shown_first : (p : ℕ) (m : Mapping) (ms : List Mapping) → times p (shown (m ∷ ms)) ≡ times p (shown (m ∷ [])) + times p (shown ms)
+shown_first p m ms = go m.backing
+  where
+    go : (b : Backing) → times p (shown (record m { backing = b } ∷ ms)) ≡ times p (shown (record m { backing = b } ∷ [])) + times p (shown ms)
+    go (OwnPage page words) = omega arith
+    go (HostPage page) =
+        let all = times_first p page (shown ms) in
+        let one = times_first p page [] in
+        omega arith
+
+-- a guest page that none has is found in no mapping
+none_mapped : (n : ℕ) (ms : List Mapping) → has n (map (λ (m : Mapping). m.guest) ms) ≡ false → at (λ (m : Mapping). m.guest) n ms ≡ None
+none_mapped n [] e = refl
+none_mapped n (m ∷ ms) e = go (eqb m.guest n) e (none_mapped n ms)
+  where
+    go : (b : Bool) → (b || has n (map (λ (x : Mapping). x.guest) ms)) ≡ false
+        → (has n (map (λ (x : Mapping). x.guest) ms) ≡ false → at (λ (x : Mapping). x.guest) n ms ≡ None)
+        → cond b (Some m) (at (λ (x : Mapping). x.guest) n ms) ≡ None
+    go true q more = absurd (true≢false q)
+    go false q more = more q
+
+-- a leaf that is there stands somewhere
+leaf_place : (pages root : ℕ) (words : List ℕ) (g : ℕ) → IsTree pages root words → g < 2 ^ 29 → leaf_at pages root words g ≢ 0
+    → (place : ℕ) × StandsAt pages root words (InLast g) place
+leaf_place pages root words g tree low some = go (tree.links (InMiddle (g / 512)) (omega arith))
+  where
+    go : IsLink pages root (entry_at pages root words (InMiddle (g / 512))) → (place : ℕ) × StandsAt pages root words (InLast g) place
+    go (NoTable e) = absurd (some (ap (λ k. below pages words k (g % 512)) e ∙ below-absent pages words (g % 512)))
+    go (ATable page out e) = (table_word pages page (g % 512), (page, e, refl))
+
+-- Words after each leaf was cleared: nothing else changed, and a page is shared as often less as the mappings did.
+record Cleared (pages root : ℕ) (words : List ℕ) (p n : ℕ) : Type 0 where
+  left : List ℕ
+  size : length left ≡ length words
+  tree : IsTree pages root left
+  links : (a : Slot) → IsLinkSlot a → entry_at pages root left a ≡ entry_at pages root words a
+  leaves : (g : ℕ) → g < 2 ^ 29 → leaf_at pages root left g ≡ 0
+  others : (place : ℕ) → ((g : ℕ) → g < 2 ^ 29 → StandsAt pages root words (InLast g) place → ⊥) → get_or left place 0 ≡ get_or words place 0
+  count : shared_leaves pages left p + n ≡ shared_leaves pages words p
+
+-- one leaf that is cleared
+module _ (pages harts root p : ℕ) (words : List ℕ) (size : length words ≡ all_words pages harts) (tree : IsTree pages root words)
+    (g place n : ℕ) (low : g < 2 ^ 29) (stands : StandsAt pages root words (InLast g) place)
+    (once : shared_once p (leaf_at pages root words g) ≡ n) where
+  abbrev next : List ℕ
+  next = set words place 0
+
+  store : IsStoreAt pages root words (InLast g) place
+  store = record { tree = tree; slot = low; at = stands }
+
+  only : OnlyAt pages root words next (InLast g) 0
+  only = leaf-store pages root words g place 0 store
+
+  next_tree : IsTree pages root next
+  next_tree = tree-leaf pages root words next g 0 tree only (IsAbsent refl)
+
+  next_links : (a : Slot) → IsLinkSlot a → entry_at pages root next a ≡ entry_at pages root words a
+  next_links (InRoot m) slot = only.others (InRoot m) slot (root≢last m g)
+  next_links (InMiddle m) slot = only.others (InMiddle m) slot (middle≢last m g)
+  next_links (InLast h) slot = absurd slot
+
+  next_leaf : (h : ℕ) → h < 2 ^ 29 → h ≢ g → leaf_at pages root next h ≡ leaf_at pages root words h
+  next_leaf h small off = only.others (InLast h) small (λ e. off (last-number h g e))
+
+  next_count : shared_leaves pages next p + n ≡ shared_leaves pages words p
+  next_count =
+      let board = (named-outside pages root words tree (InMiddle (g / 512)) stands.0 (omega arith) stands.1).0 in
+      let is : place ≡ table_word pages stands.0 (g % 512) = stands.2 in
+      let step = (stores_count_shared pages harts words p size).1 place 0 (omega arith) (omega arith) in
+      let was : shared_once p (leaf_at pages root words g) ≡ shared_once p (get_or words place 0) = ap (shared_once p) (entry-stands pages root words (InLast g) place stands) in
+      let none : shared_once p 0 ≡ 0 = once_is p 0 false refl in
+      omega arith
+
+  -- and then the others
+  cleared_on : (m : ℕ) → Cleared pages root next p m → Cleared pages root words p (n + m)
+  cleared_on m rest = record {
+    left = rest.left;
+    size = rest.size ∙ length-set words place 0;
+    tree = rest.tree;
+    links = λ a slot. rest.links a slot ∙ next_links a slot;
+    leaves = rest.leaves;
+    others = λ at none.
+        rest.others at (λ h small there. none h small (there.0, sym (next_links (InMiddle (h / 512)) (omega arith)) ∙ there.1, there.2))
+        ∙ get_or-set_other words place at 0 0 (λ e. none g low (subst (StandsAt pages root words (InLast g)) (sym e) stands));
+    count = let first = next_count in let more = rest.count in omega arith;
+  }
+
+clears : (pages harts root p : ℕ) (ms : List Mapping) (words : List ℕ) → length words ≡ all_words pages harts → IsTree pages root words
+    → AreDistinct (map (λ (m : Mapping). m.guest) ms)
+    → ((g : ℕ) → g < 2 ^ 29 → Shares p (leaf_at pages root words g) (at (λ (m : Mapping). m.guest) g ms))
+    → ((g : ℕ) → 2 ^ 29 ≤ g → at (λ (m : Mapping). m.guest) g ms ≡ None)
+    → Cleared pages root words p (times p (shown ms))
+clears pages harts root p [] words size tree apart each far = record {
+  left = words;
+  size = refl;
+  tree = tree;
+  links = λ a slot. refl;
+  leaves = each;
+  others = λ place none. refl;
+  count = omega arith;
+}
+clears pages harts root p (m ∷ ms) words size tree apart each far =
+    subst (Cleared pages root words p) (sym (shown_first p m ms))
+    (cleared_on pages harts root p words size tree m.guest place.0 (times p (shown (m ∷ []))) low place.1 here.1 (times p (shown ms))
+    (clears pages harts root p ms (set words place.0 0) (length-set words place.0 0 ∙ size)
+    (next_tree pages harts root p words size tree m.guest place.0 (times p (shown (m ∷ []))) low place.1 here.1) apart.1 each_next far_next))
+  where
+    found : at (λ (x : Mapping). x.guest) m.guest (m ∷ ms) ≡ Some m
+    found = ap (λ b. cond b (Some m) (at (λ (x : Mapping). x.guest) m.guest ms)) (eq-eqb m.guest m.guest refl)
+
+    low : m.guest < 2 ^ 29
+    low = elim (cases_lt m.guest (2 ^ 29)) [
+      | inl under ↦ under
+      | inr over ↦ absurd (none-some m (sym (far m.guest over) ∙ found))
+    ]
+
+    here : (leaf_at pages root words m.guest ≢ 0) × (shared_once p (leaf_at pages root words m.guest) ≡ times p (shown (m ∷ [])))
+    here = subst (Shares p (leaf_at pages root words m.guest)) found (each m.guest low)
+
+    place : (place : ℕ) × StandsAt pages root words (InLast m.guest) place
+    place = leaf_place pages root words m.guest tree low here.0
+
+    other_guest : (g : ℕ) → g ≢ m.guest → at (λ (x : Mapping). x.guest) g (m ∷ ms) ≡ at (λ (x : Mapping). x.guest) g ms
+    other_guest g off = ap (λ b. cond b (Some m) (at (λ (x : Mapping). x.guest) g ms)) (ne_eqb m.guest g (λ e. off (sym e)))
+
+    gone : at (λ (x : Mapping). x.guest) m.guest ms ≡ None
+    gone = none_mapped m.guest ms apart.0
+
+    each_next : (g : ℕ) → g < 2 ^ 29 → Shares p (leaf_at pages root (set words place.0 0) g) (at (λ (x : Mapping). x.guest) g ms)
+    each_next g small = elim (cases_eq g m.guest) [
+      | inl same ↦ subst (λ k. Shares p (leaf_at pages root (set words place.0 0) k) (at (λ (x : Mapping). x.guest) k ms)) (sym same)
+          (subst (Shares p (leaf_at pages root (set words place.0 0) m.guest)) (sym gone)
+          (only pages harts root p words size tree m.guest place.0 (times p (shown (m ∷ []))) low place.1 here.1).here)
+      | inr off ↦
+          let stays = next_leaf pages harts root p words size tree m.guest place.0 (times p (shown (m ∷ []))) low place.1 here.1 g small off in
+          subst (λ leaf. Shares p leaf (at (λ (x : Mapping). x.guest) g ms)) (sym stays)
+          (subst (Shares p (leaf_at pages root words g)) (other_guest g off) (each g small))
+    ]
+
+    far_next : (g : ℕ) → 2 ^ 29 ≤ g → at (λ (x : Mapping). x.guest) g ms ≡ None
+    far_next g big = sym (other_guest g (λ e. let under = low in omega arith)) ∙ far g big
+
+-- ---- words with the same shared leaves
+
+count_same : (test : ℕ → Bool) (xs ys : List ℕ) → length xs ≡ length ys → ((i : ℕ) → i < length xs → test (get_or xs i 0) ≡ test (get_or ys i 0)) → count_by test xs ≡ count_by test ys
+count_same test [] [] size same = refl
+count_same test [] (y ∷ ys) size same = absurd (omega arith)
+count_same test (x ∷ xs) [] size same = absurd (omega arith)
+count_same test (x ∷ xs) (y ∷ ys) size same =
+    let first = sum_by-cons (λ k. cond (test k) 1 0) x xs in
+    let second = sum_by-cons (λ k. cond (test k) 1 0) y ys in
+    let here = ap flag (same 0 (omega arith)) in
+    let rest = count_same test xs ys (omega arith) (λ i low. same (suc i) (omega arith)) in
+    omega arith
+
+pub window_same : (pages p : ℕ) (old new : List ℕ) → length new ≡ length old
+    → ((i : ℕ) → i < 512 * pages → is_shared_leaf p (get_or new (pages + i) 0) ≡ is_shared_leaf p (get_or old (pages + i) 0))
+    → shared_leaves pages new p ≡ shared_leaves pages old p
+window_same pages p old new size same =
+    count_same (is_shared_leaf p) (take (512 * pages) (drop pages new)) (take (512 * pages) (drop pages old)) sizes
+    (λ i h.
+    let small = low i h in
+    ap (is_shared_leaf p) (word new i small) ∙ same i small ∙ sym (ap (is_shared_leaf p) (word old i small)))
+  where
+    sizes : length (take (512 * pages) (drop pages new)) ≡ length (take (512 * pages) (drop pages old))
+    sizes =
+        length-take (512 * pages) (drop pages new)
+        ∙ ap (λ n. min (512 * pages) n) (length-drop pages new ∙ ap (λ n. n - pages) size ∙ sym (length-drop pages old))
+        ∙ sym (length-take (512 * pages) (drop pages old))
+
+    low : (i : ℕ) → i < length (take (512 * pages) (drop pages new)) → i < 512 * pages
+    low i h = omega (arith, h, length-take (512 * pages) (drop pages new))
+
+    word : (words : List ℕ) (i : ℕ) → i < 512 * pages → get_or (take (512 * pages) (drop pages words)) i 0 ≡ get_or words (pages + i) 0
+    word words i h = get_or-take (512 * pages) (drop pages words) i 0 h ∙ get_or-drop pages words i 0
+
+-- no link shares a page
+link_flag : (pages root p entry : ℕ) → IsLink pages root entry → is_shared_leaf p entry ≡ false
+link_flag pages root p entry (NoTable e) = ap (is_shared_leaf p) e
+link_flag pages root p entry (ATable page out e) = not_shared p entry 1 (omega arith) refl
+
+-- ---- a TVM that goes
+
+module _ (pages harts : ℕ) (words new : List ℕ) (t : ℕ) (seats : ℕ → Option Seat) (files : FileTable) (tvm : Tvm) (model : ModelTvm)
+    (live : LiveStands pages harts words t seats files tvm model) (size : length words ≡ all_words pages harts)
+    (guests : AreDistinct (guests_of model)) (destroys : Destroys pages words new t) (p : ℕ) where
+  abbrev root : ℕ
+  root = tvm.tables.root.0
+
+  few : pages ≤ 2 ^ 16
+  few = let limit = tvm.tables.limit in let board = live.board in omega arith
+
+  cleared : Cleared pages root words p (times p (shown_by model))
+  cleared =
+      clears pages harts root p model.mappings words size live.tables.tree guests
+      (λ g low. shares pages harts words t p (leaf_at pages root words g) (mapping_of model g) few (live.mappings.leaf g low)) live.mappings.far
+
+  -- a leaf stands in a table of the TVM, which a link names
+  leaf_table : (g place : ℕ) → g < 2 ^ 29 → StandsAt pages root words (InLast g) place
+      → (q : ℕ) × (q < pages) × (place ≡ table_word pages q (g % 512)) × (get_or words q 0 ≡ given t Table) × (entry_at pages root words (InMiddle (g / 512)) ≡ next_table q)
+  leaf_table g place low there = (
+    there.0,
+    (named-outside pages root words live.tables.tree (InMiddle (g / 512)) there.0 (omega arith) there.1).0,
+    there.2,
+    live.tables.given.linked (InMiddle (g / 512)) there.0 (omega arith) there.1,
+    there.1,
+  )
+
+  -- a word of a page without leaves stays
+  stays_out : (q i : ℕ) → i < 512 → ((g : ℕ) → g < 2 ^ 29 → entry_at pages root words (InMiddle (g / 512)) ≢ next_table q)
+      → get_or cleared.left (table_word pages q i) 0 ≡ get_or words (table_word pages q i) 0
+  stays_out q i low none = cleared.others (table_word pages q i) (λ g small there.
+      let on = leaf_table g (table_word pages q i) small there in
+      let is = on.2 in
+      let same : on.0 ≡ q = omega arith in
+      none g small (on.4 ∙ ap next_table same))
+
+  -- the words of a table that a link names
+  below_link : (a : Slot) (q i : ℕ) → IsLinkSlot a → i < 512 → entry_at pages root words a ≡ next_table q → is_shared_leaf p (get_or cleared.left (table_word pages q i) 0) ≡ false
+  below_link (InRoot m) q i slot low named =
+      let upper : (512 * m + i) / 512 ≡ m = omega arith in
+      let lower : i ≡ (512 * m + i) % 512 = omega arith in
+      let is : entry_at pages root cleared.left (InRoot ((512 * m + i) / 512)) ≡ next_table q =
+      ap (λ k. entry_at pages root cleared.left (InRoot k)) upper ∙ cleared.links (InRoot m) slot ∙ named in
+      let stands = entry-stands pages root cleared.left (InMiddle (512 * m + i)) (table_word pages q i) (q, is, ap (table_word pages q) lower) in
+      ap (is_shared_leaf p) (sym stands)
+      ∙ link_flag pages root p (entry_at pages root cleared.left (InMiddle (512 * m + i))) (cleared.tree.links (InMiddle (512 * m + i)) (omega arith))
+  below_link (InMiddle m) q i slot low named =
+      let upper : (512 * m + i) / 512 ≡ m = omega arith in
+      let lower : i ≡ (512 * m + i) % 512 = omega arith in
+      let is : entry_at pages root cleared.left (InMiddle ((512 * m + i) / 512)) ≡ next_table q =
+      ap (λ k. entry_at pages root cleared.left (InMiddle k)) upper ∙ cleared.links (InMiddle m) slot ∙ named in
+      let stands = entry-stands pages root cleared.left (InLast (512 * m + i)) (table_word pages q i) (q, is, ap (table_word pages q) lower) in
+      ap (is_shared_leaf p) (sym stands ∙ cleared.leaves (512 * m + i) (omega arith))
+  below_link (InLast g) q i slot low named = absurd slot
+
+  -- no word of the TVM's tables shares a page, once the leaves are cleared
+  own_flag : (q i : ℕ) → q < pages → i < 512 → IsTableOf words t q → is_shared_leaf p (get_or cleared.left (table_word pages q i) 0) ≡ false
+  own_flag q i on low (inl is) =
+      let found = live.owned.found q Root on is in
+      let first = found.0 in
+      let last = found.1 in
+      let n : ℕ = 512 * (q - root) + i in
+      let small : 512 * (q - root) + i < 2048 = omega arith in
+      let here : table_word pages root (512 * (q - root) + i) ≡ table_word pages q i = omega arith in
+      ap (λ k. is_shared_leaf p (get_or cleared.left k 0)) (sym here)
+      ∙ link_flag pages root p (entry_at pages root cleared.left (InRoot (512 * (q - root) + i))) (cleared.tree.links (InRoot (512 * (q - root) + i)) small)
+  own_flag q i on low (inr is) = go (live.owned.found q Table on is)
+    where
+      go : Contains tvm.pool.pages q ⊎ ((a : Slot) × IsLinkSlot a × (entry_at pages root words a ≡ next_table q)) → is_shared_leaf p (get_or cleared.left (table_word pages q i) 0) ≡ false
+      go (inl pooled) =
+          let same : get_or tvm.pool.pages pooled.0 0 ≡ q = get_or_default tvm.pool.pages pooled.0 0 q pooled.1 ∙ pooled.2 in
+          let spare = live.tables.spare.each pooled.0 pooled.1 in
+          ap (is_shared_leaf p)
+          (stays_out q i low (λ g small named. spare.unnamed (InMiddle (g / 512)) (omega arith) (named ∙ ap next_table (sym same)))
+          ∙ ap (λ k. get_or words (table_word pages k i) 0) (sym same) ∙ spare.zeros i low)
+      go (inr linked) = below_link linked.0 q i linked.1 low linked.2
+
+  same_flag : (q i : ℕ) → q < pages → i < 512 → is_shared_leaf p (get_or new (table_word pages q i) 0) ≡ is_shared_leaf p (get_or cleared.left (table_word pages q i) 0)
+  same_flag q i on low = elim (cases_eq (get_or words q 0) (given t Root)) [
+    | inl is ↦ ap (is_shared_leaf p) (destroys.tables q i on low (inl is)) ∙ sym (own_flag q i on low (inl is))
+    | inr no_root ↦ elim (cases_eq (get_or words q 0) (given t Table)) [
+      | inl is ↦ ap (is_shared_leaf p) (destroys.tables q i on low (inr is)) ∙ sym (own_flag q i on low (inr is))
+      | inr no_table ↦ ap (is_shared_leaf p)
+          (destroys.others q i on low (λ own. elim own [ inl root_is ↦ no_root root_is | inr table_is ↦ no_table table_is ])
+          ∙ sym (stays_out q i low (λ g small named. no_table (live.tables.given.linked (InMiddle (g / 512)) q (omega arith) named))))
+    ]
+  ]
+
+  -- a page is shared as often less as the TVM's mappings did
+  pub gone_shares : shared_leaves pages new p + times p (shown_by model) ≡ shared_leaves pages words p
+  gone_shares =
+      let same = window_same pages p cleared.left new (destroys.size ∙ sym cleared.size)
+      (λ i h.
+      let here : pages + i ≡ table_word pages (i / 512) (i % 512) = omega arith in
+      subst (λ k. is_shared_leaf p (get_or new k 0) ≡ is_shared_leaf p (get_or cleared.left k 0)) (sym here) (same_flag (i / 512) (i % 512) (omega arith) (omega arith))) in
+      let left = cleared.count in
+      omega arith

@@ -1,0 +1,228 @@
+-- A TVM stands after a run of its guest pages was mapped.
+use Rattle.std.proofs.Common.{◌≡◌, ◌≢◌, ℕ, ◌+◌, ◌-◌, ◌*◌, ◌/◌, ◌%◌, ◌^◌, ◌<◌, ◌≤◌, ◌==◌, ◌||◌, ◌⊎◌, ◌∙◌, Bool, true, false, cond, eqb, ltb, not, map, List, ◌++◌, get_or, length, length-append, Option, Some, None, refl, sym, ap, subst, inl, inr, arith}
+use Rattle.std.proofs.lemmas.Bool.{ne_eqb, false≢true}
+use Rattle.cove_base.proofs.TreeLemmas.{middle-number, root-number, root≢middle}
+use Rattle.cove_base.specs.Measurement.{Record, registers_of}
+use Rattle.cove_base.specs.PageWords.{given}
+use Rattle.cove_base.specs.Places.{hart_word, tvm_word}
+use Rattle.cove_base.specs.Tables.{Slot, InRoot, InMiddle, InLast, IsLinkSlot, Names, ByPresent, entry_at, leaf_at, present}
+use Rattle.cove_base.specs.declared.numbers.Role.{Role}
+use Rattle.cove_base.specs.declared.numbers.Role.TheVariants.{Root, State, Table, Vcpu, Data}
+use Rattle.cove_imsic.specs.FileTables.{FileTable}
+use Rattle.cove_model.proofs.LeafWords.{none_named}
+use Rattle.cove_model.proofs.Runs.{run_cases}
+use Rattle.cove_model.specs.GuestPages.{guests, new_ones, new_seconds, new_thirds, second_of, third_of}
+use Rattle.cove_model.specs.Mappings.{mapping_of, with_mappings}
+use Rattle.cove_model.specs.Owners.{has}
+use Rattle.cove_model.specs.States.{Seat}
+use Rattle.cove_model.specs.Tvms.{Backing, Mapping, Present, Tvm as ModelTvm}
+use Rattle.cove_base.specs.declared.limits.TheConstants.{TVM_LIMIT}
+use Rattle.cove_stage2.proofs.RestLemmas.{next-some}
+use Rattle.cove_stage2.specs.Lacked.{tables_lacked}
+use Rattle.cove_stage2.specs.MapStores.{Pages}
+use Rattle.cove_tvm.proofs.KeptFields.{KeepsFields, fields_stay, leaf_stands}
+use Rattle.cove_tvm.proofs.KeptTvms.{fields_kept, found_kept, mappings_kept}
+use Rattle.cove_tvm.proofs.MappedRuns.{behind_elsewhere, page_elsewhere}
+use Rattle.cove_tvm.proofs.RunMappings.{NamesRun, found_after, found_as_before}
+use Rattle.cove_tvm.proofs.TablesMissing.{lacked_agree}
+use Rattle.cove_tvm.proofs.UsedTables.{has_either, run_has, run_lacks}
+use Rattle.cove_tvm.specs.KeptOwn.{KeepsTvm}
+use Rattle.cove_tvm.specs.LeafStands.{LeafStands}
+use Rattle.cove_tvm.specs.MappedRuns.{AreMapped, MayMap}
+use Rattle.cove_tvm.specs.TvmStands.{AreMappings, ArePages, IsFoundAs, LiveStands, uses_slot}
+use Rattle.cove_tvm.specs.declared.machines.Tvm.{Tvm}
+
+some_entry : (word : ℕ) → true ≡ not (word == 0) → word ≢ 0
+some_entry word some none = false≢true (sym (some ∙ ap (λ w. not (w == 0)) none))
+
+entry_some : (word : ℕ) → word ≢ 0 → true ≡ not (word == 0)
+entry_some word some = sym (ap not (ne_eqb word 0 some))
+
+module _ (pages harts t gpa p n : ℕ) (shared : Bool) (backing : ℕ → Backing) (ms : List Mapping) (records : List Record) (words mid new : List ℕ) (left : Pages)
+    (regs : List (List ℕ)) (seats : ℕ → Option Seat) (files : FileTable) (old : Tvm) (model : ModelTvm)
+    (was : LiveStands pages harts words t seats files old model) (keeps : KeepsTvm pages harts words mid t)
+    (names : NamesRun (gpa / 4096) p n shared backing ms)
+    (unmapped : (j : ℕ) → j < n → mapping_of model (gpa / 4096 + j) ≡ None)
+    (may : MayMap pages harts mid t old.tables.root.0 old.pool.pages (gpa / 4096) p n shared)
+    (done : AreMapped pages harts t old.tables.root.0 (gpa / 4096) p n n shared mid old.pool.pages new left.pages)
+    (few : t ≤ TVM_LIMIT) where
+  abbrev g : ℕ
+  g = gpa / 4096
+
+  abbrev root : ℕ
+  root = old.tables.root.0
+
+  abbrev grown : ModelTvm
+  grown = record (with_mappings gpa n ms model) { records = records }
+
+  abbrev renewed : Tvm
+  renewed = record old { pool = left; registers = regs }
+
+  page_same : (q : ℕ) → q < pages → get_or new q 0 ≡ get_or mid q 0
+  page_same q on = done.elsewhere q (page_elsewhere pages mid t q on)
+
+  behind_same : (place : ℕ) → 513 * pages ≤ place → get_or new place 0 ≡ get_or mid place 0
+  behind_same place past = done.elsewhere place (behind_elsewhere pages mid t place past)
+
+  keeps_new : KeepsFields pages harts mid new t
+  keeps_new = record {
+    page = λ q role on is. page_same q on ∙ is;
+    number = behind_same (tvm_word pages harts t) (omega arith);
+    inside = λ number hart on.
+        ap (λ w. cond (eqb (w / 2 ^ 32) t) (ltb (w % 2 ^ 32) number) false) (behind_same (hart_word pages harts hart) (omega arith));
+  }
+
+  mappings_mid : AreMappings pages harts mid t old.tables.root.0 old.pool.pages model
+  mappings_mid = mappings_kept pages harts t words mid keeps seats files old model was
+
+  -- ---- leaves
+
+  mapping_here : (j : ℕ) → j < n → mapping_of grown (gpa / 4096 + j) ≡ Some (record { guest = gpa / 4096 + j; backing = backing j; standing = Present })
+  mapping_here j low = found_after (gpa / 4096 + j) model.mappings ms (unmapped j low) ∙ names.here j low
+
+  mapping_other : (h : ℕ) → (h < gpa / 4096) ⊎ (gpa / 4096 + n ≤ h) → mapping_of grown h ≡ mapping_of model h
+  mapping_other h out = found_as_before h model.mappings ms (names.none h out)
+
+  leaf_here : (j : ℕ) → j < n → LeafStands pages harts new t (leaf_at pages old.tables.root.0 new (gpa / 4096 + j)) (mapping_of grown (gpa / 4096 + j))
+  leaf_here j low =
+      let inside = may.inside in
+      let on : p + j < pages = omega arith in
+      subst (λ leaf. LeafStands pages harts new t leaf (mapping_of grown (gpa / 4096 + j))) (sym (done.here j low))
+      (subst (LeafStands pages harts new t (present (p + j) shared)) (sym (mapping_here j low))
+      (subst (λ q. q < pages) (sym (names.under j low)) on, sym (names.leaf j low)))
+
+  leaf_new : (h : ℕ) → h < 2 ^ 29 → LeafStands pages harts new t (leaf_at pages old.tables.root.0 new h) (mapping_of grown h)
+  leaf_new h high = elim (run_cases (gpa / 4096) n h) [
+    | inl run ↦
+        let is : gpa / 4096 + (h - gpa / 4096) ≡ h = omega (arith, run.0) in
+        subst (λ k. LeafStands pages harts new t (leaf_at pages old.tables.root.0 new k) (mapping_of grown k)) is
+        (leaf_here (h - gpa / 4096) (omega (arith, run.0, run.1)))
+    | inr out ↦
+        subst (λ leaf. LeafStands pages harts new t leaf (mapping_of grown h)) (sym (done.others h high out))
+        (subst (LeafStands pages harts new t (leaf_at pages old.tables.root.0 mid h)) (sym (mapping_other h out))
+        (leaf_stands pages harts t mid new keeps_new (leaf_at pages old.tables.root.0 mid h) (mapping_of model h) (mappings_mid.leaf h high)))
+  ]
+
+  -- ---- links
+
+  link_new : (a : Slot) → IsLinkSlot a → (k : ℕ) (xs ns : List ℕ) → has k xs ≡ not (entry_at pages old.tables.root.0 mid a == 0)
+      → (has k ns ≡ true → entry_at pages old.tables.root.0 new a ≢ 0) → (has k ns ≡ false → entry_at pages old.tables.root.0 new a ≡ entry_at pages old.tables.root.0 mid a)
+      → has k (xs ++ new_ones xs ns) ≡ not (entry_at pages old.tables.root.0 new a == 0)
+  link_new a slot k xs ns tells used unused = has_either k xs ns ∙ go (has k xs) refl (has k ns) refl
+    where
+      go : (b : Bool) → has k xs ≡ b → (c : Bool) → has k ns ≡ c → (b || c) ≡ not (entry_at pages old.tables.root.0 new a == 0)
+      go true e c f =
+          let before : true ≡ not (entry_at pages old.tables.root.0 mid a == 0) = sym e ∙ tells in
+          before ∙ ap (λ w. not (w == 0)) (sym (done.kept a slot (some_entry (entry_at pages old.tables.root.0 mid a) before)))
+      go false e true f = entry_some (entry_at pages old.tables.root.0 new a) (used f)
+      go false e false f = sym e ∙ tells ∙ ap (λ w. not (w == 0)) (sym (unused f))
+
+  links_new : (a : Slot) → IsLinkSlot a → uses_slot grown a ≡ not (entry_at pages old.tables.root.0 new a == 0)
+  links_new (InRoot k) slot =
+      link_new (InRoot k) slot k model.seconds (map second_of (guests gpa n)) (mappings_mid.links (InRoot k) slot)
+      (λ there.
+      let one = run_has second_of k (gpa / 4096) n there in
+      let same : (gpa / 4096 + one.0) / 512 / 512 ≡ k = omega (arith, one.2) in
+      subst (λ m. entry_at pages old.tables.root.0 new (InRoot m) ≢ 0) same (done.way one.0 one.1).0)
+      (λ absent.
+      done.only (InRoot k) slot (λ j low. (
+        λ e.
+            let is = root-number k ((gpa / 4096 + j) / 512 / 512) e in
+            run_lacks second_of k (gpa / 4096) n absent j low (omega (arith, is)),
+        root≢middle k ((gpa / 4096 + j) / 512),
+      )))
+  links_new (InMiddle k) slot =
+      link_new (InMiddle k) slot k model.thirds (map third_of (guests gpa n)) (mappings_mid.links (InMiddle k) slot)
+      (λ there.
+      let one = run_has third_of k (gpa / 4096) n there in
+      subst (λ m. entry_at pages old.tables.root.0 new (InMiddle m) ≢ 0) one.2 (done.way one.0 one.1).1)
+      (λ absent.
+      done.only (InMiddle k) slot (λ j low. (
+        λ e. root≢middle ((gpa / 4096 + j) / 512 / 512) k (sym e),
+        λ e. run_lacks third_of k (gpa / 4096) n absent j low (sym (middle-number k ((gpa / 4096 + j) / 512) e)),
+      )))
+  links_new (InLast h) slot = absurd slot
+
+  count_new : length grown.tables ≡ length grown.thirds + length grown.seconds + length left.pages
+  count_new =
+      let before = mappings_mid.count in
+      let lost = done.lost in
+      let thirds = length-append model.thirds (new_thirds model gpa n) in
+      let seconds = length-append model.seconds (new_seconds model gpa n) in
+      let lacked = lacked_agree pages harts t old.tables.root.0 gpa n mid old.pool.pages model mappings_mid may.guests in
+      let none : n - n ≡ 0 = omega arith in
+      let last : tables_lacked pages old.tables.root.0 new (gpa / 4096 + n) (n - n) ≡ 0 = ap (tables_lacked pages old.tables.root.0 new (gpa / 4096 + n)) none in
+      omega (arith, before, lost, thirds, seconds, lacked, last)
+
+  mappings_new : AreMappings pages harts new t old.tables.root.0 left.pages grown
+  mappings_new = record {
+    leaf = leaf_new;
+    far = λ h high. let guests = may.guests in mapping_other h (inr (omega arith)) ∙ mappings_mid.far h high;
+    links = links_new;
+    count = count_new;
+  }
+
+  -- ---- pages
+
+  found_again : (page : ℕ) (role : Role) → IsFoundAs pages harts mid t old page role → IsFoundAs pages harts new t renewed page role
+  found_again page Root found = found
+  found_again page State found = found
+  found_again page Table (inl there) = done.found page there
+  found_again page Table (inr found) = inr (found.0, found.1, done.kept found.0 found.1 (next-some _ page found.2) ∙ found.2)
+  found_again page Vcpu found = found
+  found_again page Data found = elim (run_cases (gpa / 4096) n found.0) [
+    | inl run ↦
+        let is : gpa / 4096 + (found.0 - gpa / 4096) ≡ found.0 = omega (arith, run.0) in
+        let none : leaf_at pages old.tables.root.0 mid found.0 ≡ 0 =
+        subst (λ k. leaf_at pages old.tables.root.0 mid k ≡ 0) is (may.absent (found.0 - gpa / 4096) (omega (arith, run.0, run.1))) in
+        absurd (none_named page false (leaf_at pages old.tables.root.0 mid found.0) none found.2)
+    | inr out ↦ (found.0, found.1, subst (Names page false) (sym (done.others found.0 found.1 out)) found.2)
+  ]
+
+  module _ (fresh : (q : ℕ) (role : Role) → q < pages → get_or mid q 0 ≡ given t role
+      → (get_or words q 0 ≡ given t role) ⊎ ((role ≡ Data) × ((j : ℕ) × (j < n) × (q ≡ p + j)) × (shared ≡ false)))
+      (room : left.room ≡ old.pool.room) (measured : regs ≡ registers_of records model.extensions) where
+    owned_new : ArePages pages harts new t renewed
+    owned_new = record {
+      state_fits = was.owned.state_fits;
+      state_is = page_same old.state.0 was.owned.state_fits ∙ keeps.page old.state.0 State was.owned.state_fits was.owned.state_is;
+      found = λ page role on is. elim (fresh page role on (sym (page_same page on) ∙ is)) [
+        | inl before ↦ found_again page role (found_kept pages harts t words mid keeps seats files old model was page role (was.owned.found page role on before))
+        | inr run ↦
+            let guests = may.guests in
+            let j = run.1.0 in
+            subst (IsFoundAs pages harts new t renewed page) (sym run.0) (
+              gpa / 4096 + run.1.0,
+              omega (arith, run.1.1, guests),
+              ByPresent
+                  (done.here run.1.0 run.1.1 ∙ ap (λ q. present q shared) (sym run.1.2) ∙ ap (present page) run.2),
+            )
+      ];
+    }
+
+    -- the TVM stands
+    pub run_lives : LiveStands pages harts new t seats files renewed grown
+    run_lives =
+        let fields = fields_stay pages harts t mid new keeps_new seats files old model (fields_kept pages harts t words mid keeps seats files old model was) in
+        record {
+          board = was.board;
+          room = room ∙ was.room;
+          tables = done.tables;
+          owned = owned_new;
+          mappings = mappings_new;
+          fields = record {
+            life = fields.life;
+            regions = record {
+              regions = fields.regions.regions;
+              some = fields.regions.some;
+              shared = fields.regions.shared;
+              each_once = fields.regions.each_once;
+              inside = fields.regions.inside;
+            };
+            near = fields.near;
+            registers = measured;
+            allowed = fields.allowed;
+            yet = fields.yet;
+            cpu = fields.cpu;
+          };
+        }
