@@ -7,13 +7,11 @@ use Rattle.cove_base.specs.Places.{all_words}
 use Rattle.cove_base.specs.Scripts.{ScriptValue}
 use Rattle.cove_base.specs.declared.events.Entry.{Entry}
 use Rattle.cove_core.proofs.Opening.{opening_fits, opening_kept, opening_progress}
-use Rattle.cove_core.specs.Kept.{IsBoard}
 use Rattle.cove_core.specs.Plays.{IsFresh, IsSeated}
 use Rattle.cove_core.specs.Seats.{AreNew, AtFirstLines, IsNew}
-use Rattle.cove_core.specs.declared.ground.Ground.{Ground}
 use Rattle.cove_hart.specs.declared.states.HartState.{HartState}
-use Rattle.cove_model.specs.States.{opening}
-use Rattle.cove_model.specs.WordsStand.{FramesStand}
+use Rattle.cove_tvm.specs.GroundLaws.{IsNewGround}
+use Rattle.cove_tvm.specs.declared.ground.Ground.{Ground}
 
 -- a new hart is seated at the empty history
 new_seated : (script : ScriptValue) (history : List Entry) (k : ℕ) (hart : HartState) → history ≡ [] → k < script.harts → IsNew script k hart → IsSeated script history k hart
@@ -29,14 +27,14 @@ new_unwalked script harts new k = elim (cases_lt k script.harts) [
 ]
 
 pub built_fresh :
-    (script : ScriptValue) (ground : Ground) (history : List Entry) (places words : List ℕ) (harts : List HartState)
-    → IsBoard script ground → FramesStand ground.memory (opening script) → history ≡ [] → AtFirstLines script script.harts places
+    (script : ScriptValue) (G : Ground) (history : List Entry) (places words : List ℕ) (harts : List HartState)
+    → IsNewGround script G → history ≡ [] → AtFirstLines script script.harts places
     → words ≡ replicate (all_words script.pages script.harts) 0 → AreNew script script.harts harts
-    → IsFresh script (record { mon = record { ground = ground; history = history; progress = places }; words = words; harts = harts; rounds_made = 0 })
-built_fresh script ground history places words harts board frames unplayed first zeros new =
+    → IsFresh script (record { mon = record { ground = G; history = history; progress = places }; words = words; harts = harts; rounds_made = 0 })
+built_fresh script G history places words harts opens unplayed first zeros new =
     record {
       ready = record {
-        kept = rw (zeros, unplayed) (opening_kept script ground places board frames (opening_progress script places first.0 first.1));
+        kept = rw (zeros, unplayed) (opening_kept script G places opens (opening_progress script places first.0 first.1));
         count = new.0;
         seated = λ k below. IfSome_then (slice_get harts k) (new.1 k below) (λ hart is. new_seated script history k hart unplayed below is);
       };

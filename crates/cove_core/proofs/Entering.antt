@@ -1,5 +1,5 @@
 -- An entry that was made and counted leaves the history kept, and its hart fitting.
-use Rattle.std.proofs.Common.{◌≡◌, ℕ, ◌+◌, ◌<◌, ◌≤◌, ◌≢◌, List, [], ◌∷◌, ◌++◌, IsSome, is_some, Option, Some, None, get_or, set, length, inl, inr, refl, sym, subst, ap, ◌∙◌, arith, get_or-set_other, get_or-set_same, length-set}
+use Rattle.std.proofs.Common.{◌≡◌, ℕ, ◌+◌, ◌<◌, ◌≤◌, ◌≢◌, List, [], ◌∷◌, ◌++◌, IsSome, is_some, None, get_or, set, length, inl, inr, refl, sym, subst, ap, ◌∙◌, arith, get_or-set_other, get_or-set_same, length-set}
 use Rattle.std.proofs.lemmas.Bool.{cases_eq}
 use Rattle.std.proofs.lemmas.List.{length_push}
 use Rattle.cove_base.specs.HartPlaces.{IsNextPlace}
@@ -11,58 +11,30 @@ use Rattle.cove_base.specs.declared.calls.HostCall.{HostCall}
 use Rattle.cove_base.specs.declared.events.Event.{Event}
 use Rattle.cove_base.specs.declared.statuses.Reply.{Reply}
 use Rattle.cove_model.specs.Answers.{state_after}
+use Rattle.cove_core.proofs.BoardLemmas.{at_script}
+use Rattle.cove_core.proofs.GroundSteps.{count_stands, line_stands}
 use Rattle.cove_core.specs.Kept.{IsKept, ProgressStands}
 use Rattle.cove_core.specs.Made.{IsPerformed}
 use Rattle.cove_core.specs.declared.monitors.Mon.{Mon}
 use Rattle.cove_model.proofs.AtTheEnd.{after_push, each_push, ended_other, ended_own, from_end, legal_push}
 use Rattle.cove_model.proofs.Lists.{replicate_zero}
-use Rattle.cove_model.proofs.BesideProofs.{count_leaves_words}
 use Rattle.cove_base.specs.HartLines.{next_line}
 use Rattle.cove_model.proofs.Beginning.{outside_due}
 use Rattle.cove_model.proofs.Boards.{board_of}
 use Rattle.cove_model.proofs.Fitting.{fits_entered}
-use Rattle.cove_model.proofs.Unbuilt.{empty_after, empty_done, ended_line, outside_after}
+use Rattle.cove_model.proofs.Unbuilt.{all_outside, done_leaves_outside, ended_line, outside_after}
 use Rattle.cove_model.specs.Cached.{IsReached}
 use Rattle.cove_model.specs.Fits.{Fits, InsideFits, rings_of}
 use Rattle.cove_model.specs.Histories.{after}
 use Rattle.cove_model.specs.LawfulCounts.{IsCountable}
 use Rattle.cove_model.specs.Played.{entry_by}
-use Rattle.cove_model.specs.States.{Seat, State, ended_by}
-use Rattle.cove_model.specs.Steps.{after_event, done, end_line, line_ended}
+use Rattle.cove_model.specs.States.{State, ended_by}
+use Rattle.cove_model.specs.Steps.{after_event, done}
 use Rattle.cove_model.specs.Translations.{renewed, tlb}
 use Rattle.cove_model.specs.WordLaws.{Stand}
-use Rattle.cove_model.specs.WordsStand.{FencesWithin, FramesStand}
-
--- ---- an ended line is no matter of words and frames
-
-stand_ended : (pages harts h : ℕ) (words : List ℕ) (S : State) → Stand pages harts words S → Stand pages harts words (end_line h S)
-stand_ended pages harts h words S old = record {
-  stands = record {
-    size = old.stands.size;
-    owners = record {
-      page_count = old.stands.owners.page_count;
-      hart_count = old.stands.owners.hart_count;
-      page = old.stands.owners.page;
-      unanswered = old.stands.owners.unanswered;
-    };
-    tables = old.stands.tables;
-    unused = old.stands.unused;
-    seats = old.stands.seats;
-  };
-  within = old.within;
-}
-
-frames_ended : (frames : List (List ℕ)) (h : ℕ) (S : State) → FramesStand frames S → FramesStand frames (end_line h S)
-frames_ended frames h S old = record { count = old.count; frame = old.frame }
-
--- so neither is whether it ended
-stand_line : (pages harts h : ℕ) (words : List ℕ) (o : Option Seat) (S : State) → Stand pages harts words S → Stand pages harts words (line_ended h o S)
-stand_line pages harts h words None S old = stand_ended pages harts h words S old
-stand_line pages harts h words (Some seat) S old = old
-
-frames_line : (frames : List (List ℕ)) (h : ℕ) (o : Option Seat) (S : State) → FramesStand frames S → FramesStand frames (line_ended h o S)
-frames_line frames h None S old = frames_ended frames h S old
-frames_line frames h (Some seat) S old = old
+use Rattle.cove_model.specs.WordsStand.{FencesWithin}
+use Rattle.cove_tvm.specs.Stands.{Stands}
+use Rattle.cove_tvm.specs.declared.ground.Ground.{Ground}
 
 -- ---- the state after an entry
 
@@ -73,7 +45,7 @@ module _ (script : ScriptValue) (H : List Entry) (h : ℕ) (event : Event) where
   pub ended_after_own : h < script.harts → ended_by (after script (H ++ entry_by h event ∷ [])) h ≡ ended_by (after script H) h + 1
   ended_after_own on =
       let size = (board_of script H).same_lists in
-      ap (λ (T : State). ended_by T h) after_own ∙ ended_own (after script H) h event (omega arith) ((empty_done (after script H) h (empty_after script H) event).outside h)
+      ap (λ (T : State). ended_by T h) after_own ∙ ended_own (after script H) h event (omega arith) ((done_leaves_outside (after script H) h (all_outside script H) event).outside h)
 
   pub ended_after_other : (k : ℕ) → k ≢ h → ended_by (after script (H ++ entry_by h event ∷ [])) k ≡ ended_by (after script H) k
   ended_after_other k ne = ap (λ (T : State). ended_by T k) after_own ∙ ended_other (after script H) h k event ne
@@ -105,11 +77,12 @@ module _ (script : ScriptValue) (H : List Entry) (h : ℕ) (event : Event) where
       none
       (subst (InsideFits (after script (H ++ entry_by h event ∷ [])) held.hart) (sym outside) (outside_after script (H ++ entry_by h event ∷ []) held.hart))
 
--- words and frames that stand for what a call leaves stand for the history with its entry
-pub call_entered : (pages harts : ℕ) (words : List ℕ) (frames : List (List ℕ)) (script : ScriptValue) (H : List Entry) (h : ℕ) (call : HostCall) (reply : Reply) → Stand pages harts words (state_after (after script H) h call) → FramesStand frames (state_after (after script H) h call) → Stand pages harts words (after script (H ++ entry_by h (Event.Call call reply) ∷ [])) × FramesStand frames (after script (H ++ entry_by h (Event.Call call reply) ∷ []))
-call_entered pages harts words frames script H h call reply stand memory =
-    let is = after_own script H h (Event.Call call reply) ∙ ended_line (after script H) h (empty_after script H) (Event.Call call reply) in
-    rw is (stand_ended pages harts h words (state_after (after script H) h call) stand, frames_ended frames h (state_after (after script H) h call) memory)
+-- words and ground that stand for what a call leaves stand for the history with its entry
+pub call_entered : (words : List ℕ) (G : Ground) (script : ScriptValue) (H : List Entry) (h : ℕ) (call : HostCall) (reply : Reply)
+    → Stands words G (state_after (after script H) h call) → Stands words G (after script (H ++ entry_by h (Event.Call call reply) ∷ []))
+call_entered words G script H h call reply stands =
+    let is = after_own script H h (Event.Call call reply) ∙ ended_line (after script H) h (all_outside script H) (Event.Call call reply) in
+    subst (Stands words G) (sym is) (line_stands words G h None (state_after (after script H) h call) stands)
 
 -- no hart has ended more lines than there are entries
 pub ended_within : (script : ScriptValue) (h : ℕ) → h < script.harts → (H : List Entry) → ended_by (after script H) h ≤ length H
@@ -122,7 +95,7 @@ ended_within script h on = from_end (λ H. ended_by (after script H) h ≤ lengt
           let own : ended_by (after script (H ++ e ∷ [])) h ≡ ended_by (after script H) h + 1 =
           ap (λ (T : State). ended_by T h) (after_push script H e)
           ∙ ap (λ k. ended_by (after_event (after script H) k e.event) h) (sym same)
-          ∙ ended_own (after script H) h e.event (omega arith) ((empty_done (after script H) h (empty_after script H) e.event).outside h) in
+          ∙ ended_own (after script H) h e.event (omega arith) ((done_leaves_outside (after script H) h (all_outside script H) e.event).outside h) in
           omega arith
       | inr ne ↦
           let own : ended_by (after script (H ++ e ∷ [])) h ≡ ended_by (after script H) h =
@@ -134,17 +107,21 @@ ended_within script h on = from_end (λ H. ended_by (after script H) h ≤ lengt
 -- ---- what was performed may be counted, and is kept then
 
 module _ (script : ScriptValue) (words : List ℕ) (mon : Mon) (held : HartValue) (event : Event) (performed : IsPerformed script words mon held event) where
-  stands_after : Stand script.pages script.harts words (after script (mon.history ++ entry_by held.hart event ∷ []))
+  stands_after : Stands words mon.ground (after script (mon.history ++ entry_by held.hart event ∷ []))
   stands_after =
-      subst (Stand script.pages script.harts words) (sym (after_own script mon.history held.hart event))
-      (stand_line script.pages script.harts held.hart words ((done (after script mon.history) held.hart event).seats held.hart) (done (after script mon.history) held.hart event) performed.stands)
+      subst (Stands words mon.ground) (sym (after_own script mon.history held.hart event))
+      (line_stands words mon.ground held.hart ((done (after script mon.history) held.hart event).seats held.hart) (done (after script mon.history) held.hart event) performed.stands)
+
+  words_after : Stand script.pages script.harts words (after script (mon.history ++ entry_by held.hart event ∷ []))
+  words_after =
+      at_script script mon.ground performed.board (λ p h. Stand p h words (after script (mon.history ++ entry_by held.hart event ∷ []))) stands_after.words_stand
 
   pub countable : IsCountable script mon.history held.hart words (entry_by held.hart event)
   countable = record {
     own = refl;
     allowed = performed.allowed;
     reached = performed.reached;
-    stands = stands_after;
+    stands = words_after;
     count = performed.count;
     fences = performed.fences;
   }
@@ -156,17 +133,16 @@ module _ (script : ScriptValue) (words : List ℕ) (mon : Mon) (held : HartValue
       let at = count_word script.pages script.harts in
       let count = length mon.history + 1 in
       let now : List ℕ = set words at count in
-      let size : length words ≡ all_words script.pages script.harts = performed.stands.stands.size in
+      let size : length words ≡ all_words script.pages script.harts = words_after.stands.size in
       let within : at < length words = omega arith in
       let longer : length (mon.history ++ entry_by held.hart event ∷ []) ≡ length mon.history + 1 = length_push mon.history (entry_by held.hart event) in
       record {
         board = performed.board;
         legal = legal_push script mon.history (entry_by held.hart event) performed.legal performed.allowed;
         cached = each_push (λ before entry. IsReached script before entry.hart.0 entry.event) [] mon.history (entry_by held.hart event) performed.cached performed.reached;
-        stands = count_leaves_words script.pages script.harts words (after script (mon.history ++ entry_by held.hart event ∷ [])) count stands_after;
-        frames =
-            subst (FramesStand mon.ground.memory) (sym (after_own script mon.history held.hart event))
-            (frames_line mon.ground.memory held.hart ((done (after script mon.history) held.hart event).seats held.hart) (done (after script mon.history) held.hart event) performed.frames);
+        stands =
+            at_script script mon.ground performed.board (λ p h. Stands (set words (count_word p h) count) mon.ground (after script (mon.history ++ entry_by held.hart event ∷ [])))
+            (count_stands words mon.ground count (after script (mon.history ++ entry_by held.hart event ∷ [])) stands_after);
         progress = progress_own script mon.history held.hart event mon.progress place performed.on_board (subst (λ n. IsNextPlace script held.hart (n + 1) place) performed.counts here) performed.progress;
         count = get_or-set_same words at count 0 within ∙ sym longer;
         fences = subst (FencesWithin script.pages script.harts now) (sym longer) (record {

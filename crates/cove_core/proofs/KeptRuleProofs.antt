@@ -1,5 +1,6 @@
 -- A history that is kept follows the board's rule.
 use Rattle.std.proofs.Common.{◌≡◌, ◌+◌, ◌≤◌, length, [], ◌∷◌, ◌++◌, set, sym, ap, subst, ◌∙◌, arith}
+use Rattle.cove_core.proofs.BoardLemmas.{kept_stand}
 use Rattle.cove_core.specs.KeptRule.{KeptHartsLive, KeptHartsUse, KeptIsBounded, KeptIsMonitored, StepsKeepLive}
 use Rattle.cove_base.specs.Places.{count_word}
 use Rattle.cove_model.proofs.BoardRuleProofs.{counts_keep_rule, fitting_harts_live, fitting_harts_use, lists_keep_rule}
@@ -11,15 +12,15 @@ pub kept_is_monitored : KeptIsMonitored
 kept_is_monitored script words mon kept = record {
   legal = kept.legal;
   cached = kept.cached;
-  stands = kept.stands.stands;
+  stands = (kept_stand script words mon kept).stands;
   fences = kept.fences;
   count = kept.count;
-  size = kept.stands.stands.size;
+  size = (kept_stand script words mon kept).stands.size;
 }
 
 pub kept_is_bounded : KeptIsBounded
 kept_is_bounded script words mon kept room = record {
-  within = kept.stands.within;
+  within = (kept_stand script words mon kept).within;
   fences = record {
     epoch = let epoch = kept.fences.epoch in omega arith;
     numbers = λ t low high.

@@ -1,12 +1,10 @@
-pub mod RangeLemmas
 pub mod BoardLemmas
 pub mod CallLemmas
-pub mod PageCallLemmas
-pub mod FenceLemmas
 pub mod Behind
 pub mod Clearing
 pub mod Entering
 pub mod Events
+pub mod GroundSteps
 pub mod Making
 pub mod Performing
 pub mod Walking

@@ -19,21 +19,20 @@ use Rattle.cove_core.specs.Kept.{IsKept}
 use Rattle.cove_core.specs.Made.{IsMade, IsPerformed, IsTold}
 use Rattle.cove_core.specs.Reached.{CanDo, IsDone, IsPrepared, IsReachable, load_event, store_event as stored_event}
 use Rattle.cove_core.specs.Stepped.{IsBehind}
-use Rattle.cove_core.specs.declared.ground.Ground.{Ground}
 use Rattle.cove_core.specs.declared.monitors.Mon.{Mon}
-use Rattle.cove_core.proofs.BoardLemmas.{kept_page_words, stands_ready}
+use Rattle.cove_core.proofs.BoardLemmas.{at_script, board_by, kept_page_words, kept_ready, kept_stand, met_after}
 use Rattle.cove_core.proofs.CallLemmas.{stays_within}
 use Rattle.cove_core.proofs.Clearing.{clear_other, clear_own}
 use Rattle.cove_core.proofs.Entering.{countable}
-use Rattle.cove_core.proofs.Events.{IsRightly, call_rightly, load_done, load_rightly, load_told, store_frames, store_rightly, store_stands, store_told}
+use Rattle.cove_core.proofs.Events.{IsRightly, call_rightly, load_done, load_rightly, load_told, store_rightly, store_told}
+use Rattle.cove_core.proofs.GroundSteps.{stored_stands, with_memory}
 use Rattle.cove_core.proofs.Performing.{absent_now, reached_rightly, told_rightly}
 use Rattle.cove_hart.specs.Needs.{access_need}
 use Rattle.cove_hart.specs.declared.needs.Need.TheVariants as needs
 use Rattle.cove_mem.specs.Frames.{frame}
 use Rattle.cove_model.proofs.AtTheEnd.{after_push, legal_push, tlb_same}
-use Rattle.cove_model.proofs.Histories.{sound}
 use Rattle.cove_model.proofs.Offering.{offered}
-use Rattle.cove_model.proofs.Unbuilt.{done_outside, empty_after, maps_zero, renewed_outside, touched_outside}
+use Rattle.cove_model.proofs.Unbuilt.{all_outside, done_outside, renewed_outside, touched_outside}
 use Rattle.cove_model.proofs.Fitting.{fits_other}
 use Rattle.cove_model.specs.Fits.{Fits, rings_of}
 use Rattle.cove_model.specs.Histories.{Legal, after}
@@ -44,14 +43,14 @@ use Rattle.cove_model.specs.States.{page_of, word_place}
 use Rattle.cove_model.specs.Steps.{Takes, host_done}
 use Rattle.cove_model.specs.Translations.{host_touched, tlb}
 use Rattle.cove_model.specs.Cached.{ReachesWhere}
-use Rattle.cove_model.specs.WordLaws.{Stand}
-use Rattle.cove_model.specs.WordsStand.{FencesWithin, FramesStand}
+use Rattle.cove_model.specs.WordsStand.{FencesWithin}
+use Rattle.cove_tvm.specs.Stands.{Stands}
+use Rattle.cove_tvm.specs.declared.ground.Ground.{Ground}
 
 -- all that is known of an event before it is counted
-pub record Parts (script : ScriptValue) (words : List ℕ) (mon : Mon) (held : HartValue) (line : Line) (now : List ℕ) (frames : List (List ℕ)) (rings : HartRings) (event : Event) : Type 0 where
+pub record Parts (script : ScriptValue) (words : List ℕ) (mon : Mon) (held : HartValue) (line : Line) (now : List ℕ) (G : Ground) (rings : HartRings) (event : Event) : Type 0 where
   pub rightly : IsRightly script mon.history held.hart line rings event
-  pub stands : Stand script.pages script.harts now (host_done (after script mon.history) held.hart event)
-  pub frames_stand : FramesStand frames (host_done (after script mon.history) held.hart event)
+  pub stands : Stands now G (host_done (after script mon.history) held.hart event)
   pub count : get_or now (count_word script.pages script.harts) 0 ≡ length mon.history
   pub fences : FencesWithin script.pages script.harts now (length mon.history + 1)
   pub told : IsTold words held.rings (host_touched event)
@@ -59,7 +58,7 @@ pub record Parts (script : ScriptValue) (words : List ℕ) (mon : Mon) (held : H
 
 module _ (script : ScriptValue) (within : IsTrue (is_within_limits script)) (words : List ℕ) (mon : Mon) (kept : IsKept script words mon) (held : HartValue) (fits : Fits script mon.history held) (l : ScriptLine) (at : slice_get script.lines held.place ≡ Some l) (next : next_line script held.hart held.ended ≡ Some l) where
   frame_count : length mon.ground.memory ≡ script.pages
-  frame_count = kept.frames.count ∙ kept.stands.stands.owners.page_count
+  frame_count = kept.stands.frames.count ∙ (kept_stand script words mon kept).stands.owners.page_count
 
   limits : Limits script
   limits = limits_of script within
@@ -69,20 +68,21 @@ module _ (script : ScriptValue) (within : IsTrue (is_within_limits script)) (wor
       let below = line_page script within held.place l p at asks in
       let pages = limits.few_pages in
       let some = limits.some_harts in
-      let size = kept.stands.stands.size in
+      let size = (kept_stand script words mon kept).stands.size in
       let count = frame_count in
       record {
         limit = omega arith;
         place = omega arith;
         frame = omega arith;
         word = kept_page_words script limits words mon kept room p below;
-        absent = absent_now script limits mon.history kept.legal words kept.stands held fits l next p asks;
+        absent = absent_now script limits mon.history kept.legal words (kept_stand script words mon kept) held fits l next p asks;
       }
 
-  pub can_do : length mon.history < ENTRY_LIMIT → (line : Line) → l.line ≡ line → CanDo script.pages script.harts words mon.ground.memory held line
-  can_do room (lines.Call call) is =
-      let fences = kept.fences.epoch in
-      stands_ready script.pages script.harts held.hart words mon.ground.memory (after script mon.history) limits.few_pages limits.few_harts fits.on_board (omega arith) (maps_zero script mon.history) kept.stands kept.frames
+  pub can_do : length mon.history < ENTRY_LIMIT → (line : Line) → l.line ≡ line → CanDo words mon.ground held line
+  can_do room (lines.Call call) is = record {
+    ready = kept_ready script limits words mon kept room;
+    on_board = subst (λ n. held.hart < n) (sym kept.board.harts) fits.on_board;
+  }
   can_do room (lines.Load addr) is = reachable room (page_of addr) (ap accessed_page is)
   can_do room (lines.Store addr value) is = reachable room (page_of addr) (ap accessed_page is)
 
@@ -93,86 +93,87 @@ module _ (script : ScriptValue) (within : IsTrue (is_within_limits script)) (wor
       let count = frame_count in
       omega arith
 
-  pub parts : access_need held (accessed_page l.line) ≡ needs.Event → (line : Line) → l.line ≡ line → (now : List ℕ) (frames : List (List ℕ)) (rings : HartRings) (event : Event) → IsDone script.pages script.harts words now mon.ground.memory frames held rings event line → Parts script words mon held line now frames rings event
-  parts ready (lines.Call call) is now frames rings event did =
+  pub parts : access_need held (accessed_page l.line) ≡ needs.Event → (line : Line) → l.line ≡ line → (now : List ℕ) (G : Ground) (rings : HartRings) (event : Event) → IsDone words now mon.ground G held rings event line → Parts script words mon held line now G rings event
+  parts ready (lines.Call call) is now G rings event did =
       let S = after script mon.history in
-      let served = did.called.serves S (sound script mon.history) kept.stands kept.frames in
-      subst (Parts script words mon held (lines.Call call) now frames rings) (sym did.is) (record {
+      let served = did.served.serves S (met_after script limits mon.history kept.legal) kept.stands in
+      subst (Parts script words mon held (lines.Call call) now G rings) (sym did.is) (record {
         rightly = call_rightly script mon.history held l call fits next is did.reply served.0 rings did.rings_are;
         stands = served.1;
-        frames_stand = served.2;
-        count = did.called.count ∙ kept.count;
-        fences = did.called.fences (length mon.history) kept.fences;
+        count = at_script script mon.ground kept.board (λ p k. get_or now (count_word p k) 0 ≡ get_or words (count_word p k) 0) did.served.count ∙ kept.count;
+        fences =
+            at_script script mon.ground kept.board (λ p k. (most : ℕ) → FencesWithin p k words most → FencesWithin p k now (most + 1)) did.served.fences
+            (length mon.history) kept.fences;
         told = tt;
-        lawful = did.called.lawful;
+        lawful = at_script script mon.ground kept.board (λ p k. MakesLawful p k held.hart words words now) did.served.lawful;
       })
-  parts ready (lines.Load addr) is now frames rings event did =
+  parts ready (lines.Load addr) is now G rings event did =
       let S = after script mon.history in
       let asks = ap accessed_page is in
       let r = did.0.reach in
       let value = get_or (frame mon.ground.memory (page_of addr)) (word_place addr) 0 in
       let below = line_page script within held.place l (page_of addr) at asks in
       let need = ap (access_need held) (sym asks) ∙ ready in
-      let right = reached_rightly script limits mon.history kept.legal words kept.stands held fits l next (page_of addr) asks below need rings r did.0.reaches in
+      let stand = kept_stand script words mon kept in
+      let right = reached_rightly script limits mon.history kept.legal words stand held fits l next (page_of addr) asks below need rings r did.0.reaches in
       let same = load_done S held.hart addr value r in
-      subst (λ e. Parts script words mon held (lines.Load addr) now frames rings e) (sym did.0.is)
-      (subst (λ ws. Parts script words mon held (lines.Load addr) ws frames rings (load_event addr value r)) (sym did.1)
-      (subst (λ fs. Parts script words mon held (lines.Load addr) words fs rings (load_event addr value r)) (sym did.2) (record {
-        rightly = load_rightly script mon.history held.hart addr mon.ground.memory kept.frames (access_below (page_of addr) asks) rings r right;
-        stands = subst (Stand script.pages script.harts words) (sym same) kept.stands;
-        frames_stand = subst (FramesStand mon.ground.memory) (sym same) kept.frames;
+      subst (λ e. Parts script words mon held (lines.Load addr) now G rings e) (sym did.0.is)
+      (subst (λ ws. Parts script words mon held (lines.Load addr) ws G rings (load_event addr value r)) (sym did.1)
+      (subst (λ (K : Ground). Parts script words mon held (lines.Load addr) words K rings (load_event addr value r)) (sym did.2) (record {
+        rightly = load_rightly script mon.history held.hart addr mon.ground.memory kept.stands.frames (access_below (page_of addr) asks) rings r right;
+        stands = subst (Stands words mon.ground) (sym same) kept.stands;
         count = kept.count;
         fences = stays_within script.pages script.harts words (length mon.history) kept.fences;
-        told = load_told words held.rings addr value r (told_rightly script limits mon.history kept.legal words kept.stands held fits l next (page_of addr) asks need rings r did.0.reaches);
+        told = load_told words held.rings addr value r (told_rightly script limits mon.history kept.legal words stand held fits l next (page_of addr) asks need rings r did.0.reaches);
         lawful = ([], tt, refl);
       })))
-  parts ready (lines.Store addr value) is now frames rings event did =
+  parts ready (lines.Store addr value) is now G rings event did =
       let S = after script mon.history in
       let asks = ap accessed_page is in
       let r = did.0.reach in
       let below = line_page script within held.place l (page_of addr) at asks in
       let need = ap (access_need held) (sym asks) ∙ ready in
-      let right = reached_rightly script limits mon.history kept.legal words kept.stands held fits l next (page_of addr) asks below need rings r did.0.reaches in
-      subst (λ e. Parts script words mon held (lines.Store addr value) now frames rings e) (sym did.0.is)
-      (subst (λ ws. Parts script words mon held (lines.Store addr value) ws frames rings (stored_event addr value r)) (sym did.1)
-      (subst (λ fs. Parts script words mon held (lines.Store addr value) words fs rings (stored_event addr value r)) (sym did.0.frames) (record {
+      let stand = kept_stand script words mon kept in
+      let right = reached_rightly script limits mon.history kept.legal words stand held fits l next (page_of addr) asks below need rings r did.0.reaches in
+      let grown = did.2 ∙ ap (with_memory mon.ground) did.0.frames in
+      subst (λ e. Parts script words mon held (lines.Store addr value) now G rings e) (sym did.0.is)
+      (subst (λ ws. Parts script words mon held (lines.Store addr value) ws G rings (stored_event addr value r)) (sym did.1)
+      (subst (λ (K : Ground). Parts script words mon held (lines.Store addr value) words K rings (stored_event addr value r)) (sym grown) (record {
         rightly = store_rightly script mon.history held.hart addr value rings r right;
-        stands = store_stands script.pages script.harts words S held.hart addr value r kept.stands;
-        frames_stand = store_frames mon.ground.memory S held.hart addr value r right.may (access_below (page_of addr) asks) kept.frames;
+        stands = stored_stands words mon.ground S held.hart addr value r right.may (access_below (page_of addr) asks) kept.stands;
         count = kept.count;
         fences = stays_within script.pages script.harts words (length mon.history) kept.fences;
-        told = store_told words held.rings addr value r (told_rightly script limits mon.history kept.legal words kept.stands held fits l next (page_of addr) asks need rings r did.0.reaches);
+        told = store_told words held.rings addr value r (told_rightly script limits mon.history kept.legal words stand held fits l next (page_of addr) asks need rings r did.0.reaches);
         lawful = ([], tt, refl);
       })))
 
   -- where no hart is behind, the event is performed
-  pub performed : first_behind script (after script mon.history) l.phase ≡ None → (now : List ℕ) (ground : Ground) (rings : HartRings) (event : Event) → held.inside ≡ None → (ground.pages ≡ mon.ground.pages) × (ground.harts ≡ mon.ground.harts) → Parts script words mon held l.line now ground.memory rings event → IsPerformed script now (record { ground = ground; history = mon.history; progress = mon.progress }) (record held { rings = rings }) event
-  performed none now ground rings event outside board did =
+  pub performed : first_behind script (after script mon.history) l.phase ≡ None → (now : List ℕ) (G : Ground) (rings : HartRings) (event : Event) → held.inside ≡ None → Parts script words mon held l.line now G rings event → IsPerformed script now (record { ground = G; history = mon.history; progress = mon.progress }) (record held { rings = rings }) event
+  performed none now G rings event outside did =
       let S = after script mon.history in
-      let empty = empty_after script mon.history in
-      let offer_is : offer script S held.hart ≡ line_offer S held.hart l.line = offered script S held.hart empty l (ap (next_line script held.hart) (sym fits.counts) ∙ next) none in
-      let is_done = done_outside S held.hart empty event in
+      let all = all_outside script mon.history in
+      let offer_is : offer script S held.hart ≡ line_offer S held.hart l.line = offered script S held.hart all l (ap (next_line script held.hart) (sym fits.counts) ∙ next) none in
+      let stands = subst (Stands now G) (sym (done_outside S held.hart all event)) did.stands in
       record {
-        board = record { pages = board.0 ∙ kept.board.pages; harts = board.1 ∙ kept.board.harts };
+        board = board_by script mon.history held.hart event now G stands;
         legal = kept.legal;
         cached = kept.cached;
         progress = kept.progress;
         allowed = subst (λ o. Takes S held.hart o event) (sym offer_is) did.rightly.takes;
-        reached = subst (ReachesWhere script mon.history held.hart) (sym (touched_outside S held.hart empty event)) did.rightly.reached;
-        stands = subst (Stand script.pages script.harts now) (sym is_done) did.stands;
-        frames = subst (FramesStand ground.memory) (sym is_done) did.frames_stand;
+        reached = subst (ReachesWhere script mon.history held.hart) (sym (touched_outside S held.hart all event)) did.rightly.reached;
+        stands = stands;
         count = did.count;
         fences = did.fences;
         on_board = fits.on_board;
         counts = fits.counts;
         place = fits.stands;
-        rings = did.rightly.rings_are ∙ ap rings_of (sym (renewed_outside S held.hart empty (tlb script mon.history held.hart) event));
+        rings = did.rightly.rings_are ∙ ap rings_of (sym (renewed_outside S held.hart all (tlb script mon.history held.hart) event));
         outside = outside;
       }
 
   -- and counted, it is made as the clauses say
-  pub made : (now : List ℕ) (ground : Ground) (rings : HartRings) (event : Event) → IsPerformed script now (record { ground = ground; history = mon.history; progress = mon.progress }) (record held { rings = rings }) event → Parts script words mon held l.line now ground.memory rings event → (counted : List ℕ) (new : Mon) (left : HartValue) → IsKept script counted new → Fits script new.history left → new.history ≡ mon.history ++ entry_by held.hart event ∷ [] → left.hart ≡ held.hart → left.rings ≡ rings → left.walked ≡ None → counted ≡ set now (count_word script.pages script.harts) (length mon.history + 1) → IsMade script words counted mon new held left (entry_by held.hart event)
-  made now ground rings event performed did counted new left kept' fits' grown same same_rings used stores =
+  pub made : (now : List ℕ) (G : Ground) (rings : HartRings) (event : Event) → IsPerformed script now (record { ground = G; history = mon.history; progress = mon.progress }) (record held { rings = rings }) event → Parts script words mon held l.line now G rings event → (counted : List ℕ) (new : Mon) (left : HartValue) → IsKept script counted new → Fits script new.history left → new.history ≡ mon.history ++ entry_by held.hart event ∷ [] → left.hart ≡ held.hart → left.rings ≡ rings → left.walked ≡ None → counted ≡ set now (count_word script.pages script.harts) (length mon.history + 1) → IsMade script words counted mon new held left (entry_by held.hart event)
+  made now G rings event performed did counted new left kept' fits' grown same same_rings used stores =
       let H = mon.history in
       let e = entry_by held.hart event in
       let S = after script H in
@@ -185,10 +186,10 @@ module _ (script : ScriptValue) (within : IsTrue (is_within_limits script)) (wor
         same_hart = same;
         fits = fits';
         others = λ other ne old. subst (λ h. Fits script h other) (sym grown) (fits_other script limits H e kept.legal legal other (λ q. ne (sym q)) old);
-        told = subst (IsTold words held.rings) (sym (touched_outside S held.hart (empty_after script H) event)) did.told;
+        told = subst (IsTold words held.rings) (sym (touched_outside S held.hart (all_outside script H) event)) did.told;
         clear = clear_own script limits H e legal held.hart left (same_rings ∙ performed.rings ∙ ap rings_of (sym (tlb_same script H e held.hart refl))) used;
         others_clear = λ other ne old. clear_other script limits H e legal other (λ q. ne (sym q)) old;
-        stores = (now, did.lawful, countable script now (record { ground = ground; history = mon.history; progress = mon.progress }) (record held { rings = rings }) event performed, stores);
+        stores = (now, did.lawful, countable script now (record { ground = G; history = mon.history; progress = mon.progress }) (record held { rings = rings }) event performed, stores);
       }
 
 -- ---- the next line of a hart, by its place
@@ -212,14 +213,6 @@ behind_at script H held l other next behind =
 
 -- ---- on another name of the board
 
-pub can_on : (pages pages' harts harts' : ℕ) → pages' ≡ pages → harts' ≡ harts → (words : List ℕ) (frames : List (List ℕ)) (held : HartValue) (line : Line) → CanDo pages harts words frames held line → CanDo pages' harts' words frames held line
-can_on pages pages' harts harts' p h words frames held line can =
-    subst (λ n. CanDo n harts' words frames held line) (sym p) (subst (λ n. CanDo pages n words frames held line) (sym h) can)
-
-pub done_on : (pages pages' harts harts' : ℕ) → pages' ≡ pages → harts' ≡ harts → (old new : List ℕ) (before now : List (List ℕ)) (held : HartValue) (rings : HartRings) (event : Event) (line : Line) → IsDone pages' harts' old new before now held rings event line → IsDone pages harts old new before now held rings event line
-done_on pages pages' harts harts' p h old new before now held rings event line did =
-    subst (λ n. IsDone pages n old new before now held rings event line) h (subst (λ n. IsDone n harts' old new before now held rings event line) p did)
-
 pub allows_on : (allows : List ℕ → ℕ → ℕ → Type 0) (pages pages' harts harts' hart : ℕ) → pages' ≡ pages → harts' ≡ harts → (old : List ℕ) → AllowsLawful allows pages harts hart old → AllowsLawful allows pages' harts' hart old
 allows_on allows pages pages' harts harts' hart p h old all = λ words place word lawful.
     all words place word (subst (λ n. IsLawful pages n hart old words place word) h (subst (λ n. IsLawful n harts' hart old words place word) p lawful))
@@ -229,16 +222,15 @@ pub none_behind : (script : ScriptValue) (H : List Entry) (l : ScriptLine) (foun
 none_behind script H l found is none = subst (λ r. IfNone r (first_behind script (after script H) l.phase ≡ None)) is none
 
 -- an event of a hart, from what it was prepared for to what it did
-pub record Performing (script : ScriptValue) (words : List ℕ) (mon : Mon) (held : HartValue) (line : Line) (now : List ℕ) (ground : Ground) (rings : HartRings) (event : Event) : Type 0 where
-  pub parts : Parts script words mon held line now ground.memory rings event
-  pub performed : IsPerformed script now (record { ground = ground; history = mon.history; progress = mon.progress }) (record held { rings = rings }) event
+pub record Performing (script : ScriptValue) (words : List ℕ) (mon : Mon) (held : HartValue) (line : Line) (now : List ℕ) (G : Ground) (rings : HartRings) (event : Event) : Type 0 where
+  pub parts : Parts script words mon held line now G rings event
+  pub performed : IsPerformed script now (record { ground = G; history = mon.history; progress = mon.progress }) (record held { rings = rings }) event
 
-pub performing : (script : ScriptValue) → IsTrue (is_within_limits script) → (words : List ℕ) (mon : Mon) → IsKept script words mon → (held : HartValue) → Fits script mon.history held → held.inside ≡ None → IsPrepared script held → (l : ScriptLine) → slice_get script.lines held.place ≡ Some l → first_behind script (after script mon.history) l.phase ≡ None → (now : List ℕ) (ground : Ground) (rings : HartRings) (event : Event) → (ground.pages ≡ mon.ground.pages) × (ground.harts ≡ mon.ground.harts) → IsDone mon.ground.pages mon.ground.harts words now mon.ground.memory ground.memory held rings event l.line → Performing script words mon held l.line now ground rings event
-performing script within words mon kept held fits outside prepared l at none now ground rings event board done =
+pub performing : (script : ScriptValue) → IsTrue (is_within_limits script) → (words : List ℕ) (mon : Mon) → IsKept script words mon → (held : HartValue) → Fits script mon.history held → held.inside ≡ None → IsPrepared script held → (l : ScriptLine) → slice_get script.lines held.place ≡ Some l → first_behind script (after script mon.history) l.phase ≡ None → (now : List ℕ) (G : Ground) (rings : HartRings) (event : Event) → IsDone words now mon.ground G held rings event l.line → Performing script words mon held l.line now G rings event
+performing script within words mon kept held fits outside prepared l at none now G rings event done =
     let next = next_at script mon.history held fits l at in
-    let did = parts script within words mon kept held fits l at next (ready_at script held prepared l next) l.line refl now ground.memory rings event
-    (done_on script.pages mon.ground.pages script.harts mon.ground.harts kept.board.pages kept.board.harts words now mon.ground.memory ground.memory held rings event l.line done) in
-    record { parts = did; performed = performed script within words mon kept held fits l at next none now ground rings event outside board did }
+    let did = parts script within words mon kept held fits l at next (ready_at script held prepared l next) l.line refl now G rings event done in
+    record { parts = did; performed = performed script within words mon kept held fits l at next none now G rings event outside did }
 
 -- ---- the entry at the end of a history
 

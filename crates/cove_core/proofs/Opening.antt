@@ -4,13 +4,14 @@ use Rattle.cove_base.specs.HartValues.{no_rings}
 use Rattle.cove_base.specs.HartPlaces.{IsNextPlace}
 use Rattle.cove_base.specs.Places.{all_words, count_word, epoch_word, tvm_word}
 use Rattle.cove_base.specs.Scripts.{ScriptValue}
-use Rattle.cove_core.specs.Kept.{IsBoard, IsKept, ProgressStands}
-use Rattle.cove_core.specs.declared.ground.Ground.{Ground}
+use Rattle.cove_core.specs.Kept.{IsKept, ProgressStands}
 use Rattle.cove_model.proofs.Lists.{replicate_zero}
-use Rattle.cove_model.proofs.OpeningStandsProofs.{opening_stands}
 use Rattle.cove_model.specs.Fits.{Fits}
 use Rattle.cove_model.specs.States.{ended_by, opening}
-use Rattle.cove_model.specs.WordsStand.{FramesStand, epoch_in}
+use Rattle.cove_model.specs.WordsStand.{epoch_in}
+use Rattle.cove_tvm.proofs.NewGround.{ground_opens}
+use Rattle.cove_tvm.specs.GroundLaws.{IsNewGround}
+use Rattle.cove_tvm.specs.declared.ground.Ground.{Ground}
 
 -- no hart has ended a line
 none_ended : (script : ScriptValue) (h : ℕ) → ended_by (opening script) h ≡ 0
@@ -20,17 +21,16 @@ none_ended script h = replicate_zero script.harts h
 pub opening_progress : (script : ScriptValue) (places : List ℕ) → length places ≡ script.harts → ((h : ℕ) → h < script.harts → IsNextPlace script h 0 (get_or places h 0)) → ProgressStands script (opening script) places
 opening_progress script places count each = record { count = count; each = λ h below. rw (none_ended script h) (each h below) }
 
--- words of zeros, frames of the opening memory and the first places keep the empty history
-pub opening_kept : (script : ScriptValue) (ground : Ground) (places : List ℕ) → IsBoard script ground → FramesStand ground.memory (opening script) → ProgressStands script (opening script) places → IsKept script (replicate (all_words script.pages script.harts) 0) (record { ground = ground; history = []; progress = places })
-opening_kept script ground places board frames progress =
+-- words of zeros, a new ground and the first places keep the empty history
+pub opening_kept : (script : ScriptValue) (G : Ground) (places : List ℕ) → IsNewGround script G → ProgressStands script (opening script) places → IsKept script (replicate (all_words script.pages script.harts) 0) (record { ground = G; history = []; progress = places })
+opening_kept script G places new progress =
     let n = all_words script.pages script.harts in
     let none : epoch_in script.pages (replicate n 0) ≡ 0 = replicate_zero n (epoch_word script.pages) in
     record {
-      board = board;
+      board = record { pages = new.pages; harts = new.harts };
       legal = tt;
       cached = tt;
-      stands = opening_stands script;
-      frames = frames;
+      stands = ground_opens script G new;
       progress = progress;
       count = replicate_zero n (count_word script.pages script.harts);
       fences = record { epoch = omega arith; numbers = λ t low high. omega (arith, replicate_zero n (tvm_word script.pages script.harts t)) };

@@ -27,7 +27,7 @@ use Rattle.cove_base.specs.declared.scripts.Line.TheVariants as lines
 use Rattle.cove_base.specs.declared.scripts.ScriptLine.{ScriptLine}
 use Rattle.cove_base.specs.declared.walks.Noted.{Noted}
 use Rattle.cove_base.specs.declared.walks.Target.TheVariants as targets
-use Rattle.cove_core.proofs.BoardLemmas.{kept_page_words}
+use Rattle.cove_core.proofs.BoardLemmas.{kept_page_words, kept_stand}
 use Rattle.cove_core.proofs.Performing.{absent_now, not_true, reached_rightly, told_rightly, walk_is}
 use Rattle.cove_model.proofs.AloneProofs.{fits_fit_alone}
 use Rattle.cove_core.proofs.Walking.{sought as sought_walk, unwalked_now, wanted, wanted_below}
@@ -43,7 +43,7 @@ use Rattle.cove_hart.specs.declared.needs.Need.TheVariants as needs
 use Rattle.cove_model.proofs.AtTheEnd.{each_last}
 use Rattle.cove_model.proofs.Fitting.{host_at}
 use Rattle.cove_model.proofs.Offering.{aim_of_page, due, offered, offered_behind, sought_outside}
-use Rattle.cove_model.proofs.Unbuilt.{empty_after, offer_outside, touched_outside}
+use Rattle.cove_model.proofs.Unbuilt.{all_outside, offer_outside, touched_outside}
 use Rattle.cove_model.proofs.Playing.{noted_other, noted_same, turn_full}
 use Rattle.cove_model.proofs.ToldProofs.{words_tell_host}
 use Rattle.cove_model.specs.Cached.{IsReached, Reaches, ReachesWhere}
@@ -191,13 +191,13 @@ module _ (script : ScriptValue) (within : IsTrue (is_within_limits script)) (H :
   pub entered_turn : (event : Event) → Allows script S held.hart event → IsReached script H held.hart event → IsTold words held.rings (touched S held.hart event)
       → sought_turn script play S held.hart (offer script S held.hart) (sought script S held.hart) ≡ entered play held.hart event
   entered_turn event allows reached told =
-      let empty = empty_after script H in
+      let all = all_outside script H in
       let l = prepared.line in
       let next = ap (next_line script held.hart) (sym fits.counts) ∙ prepared.next in
-      let d = due script S held.hart empty l next event allows in
-      let offers = offered script S held.hart empty l next d.0 in
-      let same = touched_outside S held.hart empty event in
-      ap (λ o. sought_turn script play S held.hart (offer script S held.hart) o) (sought_outside script S held.hart empty)
+      let d = due script S held.hart all l next event allows in
+      let offers = offered script S held.hart all l next d.0 in
+      let same = touched_outside S held.hart all event in
+      ap (λ o. sought_turn script play S held.hart (offer script S held.hart) o) (sought_outside script S held.hart all)
       ∙ ap (λ o. sought_turn script play S held.hart o (target_of o)) offers
       ∙ line_turns l.line refl event d.1 (subst (ReachesWhere script H held.hart) same reached) (subst (IsTold words held.rings) same told)
 
@@ -239,7 +239,7 @@ made_turned script within words now mon new kept held left fits prepared room en
         let reached = each_last (λ before e. IsReached script before e.hart.0 e.event) [] mon.history entry cached in
         let allows = made.step.0 in
         let is = turn_open ENTRY_LIMIT script (record { history = mon.history; notes = notes }) held.hart room
-        ∙ entered_turn script within mon.history kept.legal words kept.stands held fits prepared notes mine entry.event
+        ∙ entered_turn script within mon.history kept.legal words (kept_stand script words mon kept) held fits prepared notes mine entry.event
         (subst (λ k. Allows script (after script mon.history) k entry.event) made.by allows)
         (subst (λ k. IsReached script mon.history k entry.event) made.by reached)
         made.told in
@@ -297,13 +297,13 @@ walk_turned script within words mon kept held left fits phase is_walked l next r
         let sought_it = sought_walk script mon.history held p alone want none in
         let below = wanted_below script within held p fits.stands want in
         let same : l ≡ want.line = same_Some l want.line (sym next ∙ want.next) in
-        let empty = empty_after script mon.history in
+        let all = all_outside script mon.history in
         let here = ap (next_line script held.hart) (sym fits.counts) ∙ next in
         let asks : accessed_page l.line ≡ Some p = ap (λ (k : ScriptLine). accessed_page k.line) same ∙ want.asks in
-        let seeks = sought_outside script S held.hart empty ∙ ap target_of (offered script S held.hart empty l here none_behind) ∙ line_seeks S held.hart p l.line asks in
+        let seeks = sought_outside script S held.hart all ∙ ap target_of (offered script S held.hart all l here none_behind) ∙ line_seeks S held.hart p l.line asks in
         let is = turn_open ENTRY_LIMIT script play held.hart room
         ∙ walk_sought script play S held.hart p (offer script S held.hart) (sought script S held.hart) seeks sought_it.absent (mine ∙ ap note_of none) in
-        let tells = found_rightly words (is_host (page_at S.pages p)) p is_walked.walked is_walked.finds (words_tell_host script.pages script.harts words S p below kept.stands.stands.owners) in
+        let tells = found_rightly words (is_host (page_at S.pages p)) p is_walked.walked is_walked.finds (words_tell_host script.pages script.harts words S p below (kept_stand script words mon kept).stands.owners) in
         turn_by script play held.hart mon.history (cond (is_host (page_at S.pages p)) Found Missing) left.walked is
         (ap (λ b. cond b Found Missing) tells ∙ sym (ap (λ (v : HartValue). note_of v.walked) is_walked.left_is))
 
@@ -323,7 +323,7 @@ idle_turn : (script : ScriptValue) (play : Play) (h : ℕ) (offered_it : Offer) 
 idle_turn script play h offered_it none idle is =
     let S = after script play.history in
     let seeks : sought script S h ≡ None =
-    sought_outside script S h (empty_after script play.history) ∙ ap target_of is ∙ none in
+    sought_outside script S h (all_outside script play.history) ∙ ap target_of is ∙ none in
     ap (sought_turn script play S h (offer script S h)) seeks ∙ ap (entry_turn script play S h) is ∙ idle
 
 stays_turned : (script : ScriptValue) (H : List Entry) (held : HartValue) → Fits script H held → ((play : Play) → play.history ≡ H → turn ENTRY_LIMIT script play held.hart ≡ play) → IsTurned script H H held held false
@@ -350,7 +350,7 @@ over_turned script H held fits none = stays_turned script H held fits (λ play e
         ap (λ K. next_line script held.hart (ended_by (after script K) held.hart)) e ∙ ap (next_line script held.hart) (sym fits.counts)
         ∙ sym (line_at_place script held.hart held.ended held.place fits.stands) ∙ none in
         let S = after script play.history in
-        idle_turn script play held.hart Nothing refl refl (offer_outside S held.hart (empty_after script play.history) script ∙ ap (outside_offer script S held.hart) next)
+        idle_turn script play held.hart Nothing refl refl (offer_outside S held.hart (all_outside script play.history) script ∙ ap (outside_offer script S held.hart) next)
 
 -- another hart is behind
 pub behind_turned : (script : ScriptValue) (H : List Entry) (held : HartValue) → Fits script H held → (l : ScriptLine) → next_line script held.hart held.ended ≡ Some l → (other : ℕ) → first_behind script (after script H) l.phase ≡ Some other → IsTurned script H H held held false
@@ -361,7 +361,7 @@ behind_turned script H held fits l here other behind = stays_turned script H hel
         let next : next_line script held.hart (ended_by (after script play.history) held.hart) ≡ Some l =
         ap (λ K. next_line script held.hart (ended_by (after script K) held.hart)) e ∙ ap (next_line script held.hart) (sym fits.counts) ∙ here in
         idle_turn script play held.hart (Behind other) refl refl
-        (offered_behind script (after script play.history) held.hart (empty_after script play.history) l next other (ap (λ K. first_behind script (after script K) l.phase) e ∙ behind))
+        (offered_behind script (after script play.history) held.hart (all_outside script play.history) l next other (ap (λ K. first_behind script (after script K) l.phase) e ∙ behind))
 
 -- ---- as the code comes to them
 
@@ -400,5 +400,5 @@ idle_never script held l next idle = by_access (accessed_page l.line) (sym (ap (
 -- words that are kept have each page's word
 pub kept_words : (script : ScriptValue) → IsTrue (is_within_limits script) → (words : List ℕ) (mon : Mon) → IsKept script words mon → length mon.history < ENTRY_LIMIT → HavePageWords script.pages words
 kept_words script within words mon kept room p below =
-    let size = kept.stands.stands.size in
+    let size = (kept_stand script words mon kept).stands.size in
     (omega arith, kept_page_words script (limits_of script within) words mon kept room p below)

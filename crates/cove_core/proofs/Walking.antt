@@ -17,6 +17,7 @@ use Rattle.cove_base.specs.declared.walks.Target.{Target}
 use Rattle.cove_base.specs.declared.walks.Target.TheVariants as targets
 use Rattle.cove_base.proofs.HartPlaceLemmas.{line_at_place}
 use Rattle.cove_base.proofs.ScriptLimits.{line_page}
+use Rattle.cove_core.proofs.BoardLemmas.{kept_stand}
 use Rattle.cove_core.specs.Kept.{IsKept}
 use Rattle.cove_core.specs.Reached.{IsPrepared}
 use Rattle.cove_core.specs.Walks.{IsFoundIn}
@@ -124,7 +125,7 @@ fits_walk script words held page (walks.Found q) below want finds mon kept fits 
     let H = mon.history in
     let alone = fits_fit_alone script H held fits in
     let none = unwalked_now script H held page.0 alone want in
-    let host : is_host (page_at (after script H).pages page.0) ≡ true = (words_tell_host script.pages script.harts words (after script H) page.0 below kept.stands.stands.owners).1 finds.1 in
+    let host : is_host (page_at (after script H).pages page.0) ≡ true = (words_tell_host script.pages script.harts words (after script H) page.0 below (kept_stand script words mon kept).stands.owners).1 finds.1 in
     fits_walked script H held (targets.Host page) (walks.Found q) fits none
     (sought script H held page.0 alone want none, record { was = was_now script H held.hart (targets.Host page) host; led = finds.0 })
 fits_walk script words held page (walks.Missing word) below want finds mon kept fits =

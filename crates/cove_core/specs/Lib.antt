@@ -1,12 +1,10 @@
 pub mod Bytes
-pub mod Called
+pub mod CanCall
 pub mod Kept
+pub mod KeptRule
 pub mod Made
+pub mod Plays
 pub mod Reached
-pub mod Replies
+pub mod Seats
 pub mod Stepped
 pub mod Walks
-pub mod Seats
-pub mod Plays
-pub mod KeptRule
-pub mod Zeros

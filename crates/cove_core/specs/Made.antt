@@ -21,11 +21,11 @@ use Rattle.cove_model.specs.Owners.{holder, page_at}
 use Rattle.cove_model.specs.States.{ended_by}
 use Rattle.cove_model.specs.Steps.{Allows, IsStep, done}
 use Rattle.cove_model.specs.Translations.{Touched, Came, Failed, renewed, tlb, touched}
-use Rattle.cove_model.specs.WordLaws.{Stand}
-use Rattle.cove_model.specs.WordsStand.{FencesWithin, FramesStand}
+use Rattle.cove_model.specs.WordsStand.{FencesWithin}
+use Rattle.cove_tvm.specs.Stands.{Stands}
 
 -- An event that a hart made, before its entry is counted: the history and the progress are those before it, and the
--- words, the frames and the ring of the hart are those after it.
+-- words, the ground and the ring of the hart are those after it.
 pub record IsPerformed (script : ScriptValue) (words : List ℕ) (mon : Mon) (held : HartValue) (event : Event) : Type 0 where
   pub board : IsBoard script mon.ground
   pub legal : Legal script mon.history
@@ -33,8 +33,7 @@ pub record IsPerformed (script : ScriptValue) (words : List ℕ) (mon : Mon) (he
   pub progress : ProgressStands script (after script mon.history) mon.progress
   pub allowed : Allows script (after script mon.history) held.hart event
   pub reached : IsReached script mon.history held.hart event
-  pub stands : Stand script.pages script.harts words (done (after script mon.history) held.hart event)
-  pub frames : FramesStand mon.ground.memory (done (after script mon.history) held.hart event)
+  pub stands : Stands words mon.ground (done (after script mon.history) held.hart event)
   pub count : slice_index words (count_word script.pages script.harts) ≡ length mon.history
   pub fences : FencesWithin script.pages script.harts words (length mon.history + 1)
   pub on_board : held.hart < script.harts

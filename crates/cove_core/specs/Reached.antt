@@ -20,7 +20,8 @@ use Rattle.cove_base.specs.declared.walks.Target.TheVariants.{Host}
 use Rattle.cove_base.specs.declared.walks.Noted.{Noted}
 use Rattle.cove_base.specs.declared.events.Walked.{Walked}
 use Rattle.cove_base.specs.declared.events.Walked.TheVariants as walks
-use Rattle.cove_core.specs.Called.{Called, IsReady}
+use Rattle.cove_core.specs.CanCall.{CanCall}
+use Rattle.cove_host.specs.Served.{IsServed}
 use Rattle.cove_core.specs.declared.accesses.Reach.{Reach}
 use Rattle.cove_core.specs.declared.accesses.Reach.TheVariants as reach
 use Rattle.cove_hart.specs.Needs.{access_need}
@@ -28,6 +29,7 @@ use Rattle.cove_hart.specs.declared.needs.Need.TheVariants as needs
 use Rattle.cove_mem.specs.Frames.{frame, with_word}
 use Rattle.cove_model.specs.States.{page_of, word_place}
 use Rattle.cove_base.specs.Statuses.{is_success}
+use Rattle.cove_tvm.specs.declared.ground.Ground.{Ground}
 
 -- a hart has a line left, for which it needs no walk any more
 pub record IsPrepared (script : ScriptValue) (held : HartValue) : Type 0 where
@@ -108,23 +110,22 @@ pub record IsStored (words : List ℕ) (before now : List (List ℕ)) (held : Ha
   pub frames : now ≡ frames_by reach before (with_word before (page_of addr) (word_place addr) value)
 
 -- a call that a hart made
-pub record IsAnswered (pages harts hart : ℕ) (call : HostCall) (old new : List ℕ) (before now : List (List ℕ)) (rings left : HartRings) (event : Event) : Type 0 where
+pub record IsAnswered (hart : ℕ) (call : HostCall) (old new : List ℕ) (G H : Ground) (rings left : HartRings) (event : Event) : Type 0 where
   pub reply : Reply
-  pub called : Called pages harts hart call old new before now reply
+  pub served : IsServed hart call old new G H reply
   pub is : event ≡ events.Call call reply
   pub rings_are : left ≡ rings_left call (is_success reply.status) rings
 
--- what a hart needs of the words and the frames to do what a line says
-abbrev pub CanDo : (pages harts : ℕ) (words : List ℕ) (frames : List (List ℕ)) → HartValue → Line → Type 0
-CanDo pages harts words frames held (lines.Call call) = IsReady pages harts held.hart words frames
-CanDo pages harts words frames held (lines.Load addr) = IsReachable words frames held (page_of addr)
-CanDo pages harts words frames held (lines.Store addr value) = IsReachable words frames held (page_of addr)
+-- what a hart needs of words and ground to do what a line says
+abbrev pub CanDo : (words : List ℕ) → Ground → HartValue → Line → Type 0
+CanDo words G held (lines.Call call) = CanCall words G held.hart
+CanDo words G held (lines.Load addr) = IsReachable words G.memory held (page_of addr)
+CanDo words G held (lines.Store addr value) = IsReachable words G.memory held (page_of addr)
 
--- a hart did what a line says; an access changes no word, and a load no frame
-abbrev pub IsDone : (pages harts : ℕ) (old new : List ℕ) (before now : List (List ℕ)) → HartValue → (rings : HartRings) → Event → Line → Type 0
-IsDone pages harts old new before now held rings event (lines.Call call) =
-    IsAnswered pages harts held.hart call old new before now held.rings rings event
-IsDone pages harts old new before now held rings event (lines.Load addr) =
-    IsLoaded old before held addr rings event × (new ≡ old) × (now ≡ before)
-IsDone pages harts old new before now held rings event (lines.Store addr value) =
-    IsStored old before now held addr value rings event × (new ≡ old)
+-- a hart did what a line says; an access changes no word, a load nothing of the ground, and a store its frames alone
+abbrev pub IsDone : (old new : List ℕ) (G H : Ground) → HartValue → (rings : HartRings) → Event → Line → Type 0
+IsDone old new G H held rings event (lines.Call call) = IsAnswered held.hart call old new G H held.rings rings event
+IsDone old new G H held rings event (lines.Load addr) =
+    IsLoaded old G.memory held addr rings event × (new ≡ old) × (H ≡ G)
+IsDone old new G H held rings event (lines.Store addr value) =
+    IsStored old G.memory H.memory held addr value rings event × (new ≡ old) × (H ≡ record G { memory = H.memory })

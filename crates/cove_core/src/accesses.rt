@@ -4,8 +4,8 @@ ghost use Rattle.std.specs.Prelude.{◌≡◌, ◌<◌, ◌↔◌, ◌^◌, IsTr
 ghost use Rattle.cove_base.specs.PageWords.{IsHostWord, IsPageWord};
 ghost use Rattle.cove_base.specs.Rings.{found};
 ghost use Rattle.cove_base.specs.Unchanged.{Unchanged};
-ghost use Rattle.cove_core.specs.Called.{IsReady};
 ghost use Rattle.cove_core.specs.Reached.{CanDo, HasWalked, IsAnswered, IsDone, IsLoaded, IsReachable, IsStored, ComesTo, frames_by, load_event, rings_forgotten, store_event};
+ghost use Rattle.cove_core.specs.CanCall.{CanCall};
 ghost use Rattle.cove_hart.specs.HartStates.{hart_value};
 ghost use Rattle.cove_mem.specs.Frames.{frame, with_word};
 ghost use Rattle.cove_model.specs.LawfulStores.{AllowsLawful};
@@ -13,12 +13,12 @@ ghost use Rattle.cove_model.specs.States.{page_of, word_place};
 ghost use Rattle.cove_base.specs.Statuses.{is_success};
 
 use crate::calls::call;
-use crate::ground::Ground;
 use cove_base::{Event, HostCall, How, Line, Page, Status, Target, Walked, Words};
 use cove_hart::HartState;
 use cove_mem::Memory;
 use cove_owner::{PageState, state};
 use cove_tlb::Rings;
+use cove_tvm::Ground;
 
 /// How a hart comes to the page of its next line.
 #[derive(Clone, Copy)]
@@ -35,13 +35,11 @@ pub enum Reach {
 
 /// Does for a hart what a line says.
 pub fn perform<W: Words>(w: &mut W, g: &mut Ground, hart: &mut HartState, line: Line) -> Event
-    requires can { CanDo g.old.pages g.old.harts (W.words w.old) g.old.memory (hart_value hart.old) line }
+    requires can { CanDo (W.words w.old) g.old (hart_value hart.old) line }
     requires allowed { AllowsLawful (W.allows (W.guard w.old)) g.old.pages g.old.harts hart.old.hart.0 (W.words w.old) }
-    ensures done { IsDone g.old.pages g.old.harts (W.words w.old) (W.words w.new) g.old.memory g.new.memory
-        (hart_value hart.old) hart.new.rings result line }
+    ensures done { IsDone (W.words w.old) (W.words w.new) g.old g.new (hart_value hart.old) hart.new.rings result line }
     ensures hart { hart.new ≡ record hart.old { rings = hart.new.rings } }
     ensures guard { W.guard w.new ≡ W.guard w.old }
-    ensures board { (g.new.pages ≡ g.old.pages) × (g.new.harts ≡ g.old.harts) }
 {
     match line {
         Line::Call(c) => answer(w, g, hart, c),
@@ -84,13 +82,12 @@ pub fn store<W: Words>(
 
 /// Answers a call for a hart.
 pub fn answer<W: Words>(w: &mut W, g: &mut Ground, hart: &mut HartState, c: HostCall) -> Event
-    requires ready { IsReady g.old.pages g.old.harts hart.old.hart.0 (W.words w.old) g.old.memory }
+    requires can { CanCall (W.words w.old) g.old hart.old.hart.0 }
     requires allowed { AllowsLawful (W.allows (W.guard w.old)) g.old.pages g.old.harts hart.old.hart.0 (W.words w.old) }
-    ensures answered { IsAnswered g.old.pages g.old.harts hart.old.hart.0 c
-        (W.words w.old) (W.words w.new) g.old.memory g.new.memory hart.old.rings hart.new.rings result }
+    ensures answered { IsAnswered hart.old.hart.0 c
+        (W.words w.old) (W.words w.new) g.old g.new hart.old.rings hart.new.rings result }
     ensures hart { hart.new ≡ record hart.old { rings = hart.new.rings } }
     ensures guard { W.guard w.new ≡ W.guard w.old }
-    ensures board { (g.new.pages ≡ g.old.pages) × (g.new.harts ≡ g.old.harts) }
 {
     let reply = call(w, g, hart.hart, c);
     if is_success(reply.status) {

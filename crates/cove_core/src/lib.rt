@@ -2,18 +2,17 @@
 //! The monitor's core over the shared words: each call of the host, and each entry of a hart, as the definitions say.
 //!
 //! A call is generic over the words, and needs of them one thing: that they allow every lawful store. Whatever
-//! state the words and frames stood for, the answer is that state's, and they stand for the state after it. The one
-//! theorem is the contract of [`event_step`]: it keeps a history legal and cached, its words, frames and progress
+//! state words and ground stood for, the answer is that state's, and they stand for the state after it. The one
+//! theorem is the contract of [`event_step`]: it keeps a history legal and cached, its words, ground and progress
 //! standing for the state after it, and every hart fitting it. Its words are in specs/Kept, specs/Made and
 //! specs/Stepped. [`kept_law`] says that every page which a hart names then is one that the words let it use.
 //! [`play`] takes the turns of a script over words of one owner, and its history is the one that the script plays.
-//! It stands on the laws of `cove_model`, and on the owners, fences, frames and rings below it.
+//! It stands on the laws of `cove_model` and `cove_tvm`, on the calls of `cove_host`, and on the frames and rings below it.
 
 mod accesses;
 mod builds;
 mod calls;
 mod fills;
-mod ground;
 mod monitors;
 mod plays;
 mod rules;
@@ -24,8 +23,7 @@ mod tests;
 mod walks;
 
 pub use builds::build;
-pub use calls::{call, convert_pages, global_fence, local_fence, reclaim_pages};
-pub use ground::Ground;
+pub use calls::call;
 pub use monitors::{Mon, Progress};
 pub use plays::{Built, play};
 pub use rules::kept_law;

@@ -2,9 +2,9 @@ ghost use Rattle.std.specs.Prelude.{◌≡◌, ◌<◌, ◌++◌, ◌∷◌, [],
 ghost use Rattle.cove_model.specs.Offers.{is_earlier};
 ghost use Rattle.cove_base.specs.Scripts.{is_within_limits};
 
-use crate::ground::Ground;
 use cove_base::{HartId, History, NoMemory, Script, ScriptLine};
 use cove_hart::next_place;
+use cove_tvm::Ground;
 use std::alloc::Global;
 use std::marker::Model;
 

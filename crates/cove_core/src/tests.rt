@@ -1,16 +1,17 @@
-ghost use Rattle.std.specs.Prelude.{◌≡◌, ℕ, ◌+◌, ◌<◌, List, IfOk};
+ghost use Rattle.std.specs.Prelude.{◌≡◌, ℕ, ◌+◌, ◌-◌, ◌<◌, List, IfOk};
 ghost use Rattle.cove_base.specs.declared.limits.TheConstants.{ENTRY_LIMIT};
 ghost use Rattle.cove_base.specs.Scripts.{ScriptValue};
 ghost use Rattle.cove_base.specs.declared.events.Entry.{Entry};
 ghost use Rattle.cove_model.specs.Histories.{after};
-ghost use Rattle.cove_model.specs.WordLaws.{Stand};
-ghost use Rattle.cove_model.specs.WordsStand.{FencesWithin, FramesStand, epoch_in};
+ghost use Rattle.cove_model.specs.WordsStand.{FencesWithin};
+ghost use Rattle.cove_tvm.specs.Stands.{Stands};
 
-use crate::{Ground, build, call, play};
+use crate::{build, call, play};
 use cove_base::{
     Bytes, Fills, HartId, HostCall, Line, Lines, NoMemory, Plain, Reply, Script, ScriptLine,
     Status, Turns,
 };
+use cove_tvm::Ground;
 use std::alloc::Global;
 use std::test::Fail;
 
@@ -31,12 +32,10 @@ fn reclaim(base: u64, n: u64) -> HostCall {
 // The answer to a call of one of two harts, on a board of 16 pages.
 fn answer(w: &mut Plain, g: &mut Ground, second: bool, c: HostCall) -> Reply
     requires board { (g.old.pages ≡ 16) × (g.old.harts ≡ 2) }
-    requires stands { (script : ScriptValue) × (history : List Entry)
-        × Stand 16 2 w.old (after script history) × FramesStand g.old.memory (after script history) }
-    requires room { epoch_in 16 w.old < ENTRY_LIMIT }
+    requires stands { (script : ScriptValue) × (history : List Entry) × Stands w.old g.old (after script history) }
+    requires room { FencesWithin 16 2 w.old (ENTRY_LIMIT - 1) }
     ensures board { (g.new.pages ≡ 16) × (g.new.harts ≡ 2) }
-    ensures stands { (script : ScriptValue) × (history : List Entry)
-        × Stand 16 2 w.new (after script history) × FramesStand g.new.memory (after script history) }
+    ensures stands { (script : ScriptValue) × (history : List Entry) × Stands w.new g.new (after script history) }
     ensures fences { (most : ℕ) → FencesWithin 16 2 w.old most → FencesWithin 16 2 w.new (most + 1) }
 {
     call(w, g, hart_of(second), c)
@@ -63,7 +62,7 @@ fn calls_of_two_harts_are_answered_in_turn(rt: HostRuntime) -> Result<(), Fail> 
         (false, reclaim(0x4000, 1), Status::Success, 0),
         (false, reclaim(0x5000, 1), Status::InvalidAddress, 0),
         (false, HostCall::Info, Status::Success, 1),
-        (true, HostCall::Destroy { t: 1 }, Status::NotSupported, 0),
+        (true, HostCall::Kick { hart: 1 }, Status::NotSupported, 0),
     ];
     for (second, c, status, value) in table {
         let reply = answer(&mut built.words, &mut built.mon.ground, second, c);

@@ -29,6 +29,7 @@ mod ReadyWords
 mod Reclaiming
 mod RegionProofs
 mod RunChecks
+mod ServedCalls
 mod SharedPages
 mod TableProofs
 mod TakenPages

@@ -11,4 +11,5 @@ pub mod MeasuredRuns
 pub mod MoreRegions
 pub mod Raised
 pub mod Released
+pub mod Served
 pub mod Zeros

@@ -8,7 +8,7 @@ use Rattle.cove_base.specs.declared.scripts.Line.{Line}
 use Rattle.cove_base.specs.declared.scripts.Line.TheVariants as lines
 use Rattle.cove_base.specs.declared.scripts.ScriptLine.{ScriptLine}
 use Rattle.cove_model.proofs.Fitting.{host_at}
-use Rattle.cove_model.proofs.Unbuilt.{IsEmpty, offer_outside}
+use Rattle.cove_model.proofs.Unbuilt.{AreOutside, offer_outside}
 use Rattle.cove_model.specs.Aims.{line_aim}
 use Rattle.cove_base.specs.declared.walks.Target.{Target}
 use Rattle.cove_model.specs.Offers.{Offer, first_behind, line_offer, offer, outside_offer, sought, target_of, unkicked_offer, unless_behind}
@@ -35,16 +35,16 @@ aim_of_none (lines.Load addr) e = cc
 aim_of_none (lines.Store addr value) e = cc
 
 -- a hart outside seeks what it is offered
-pub sought_outside : (script : ScriptValue) (S : State) (h : ℕ) → IsEmpty S → sought script S h ≡ target_of (offer script S h)
-sought_outside script S h empty =
-    ap (λ o. target_of (unkicked_offer script S h o)) (empty.outside h) ∙ ap target_of (sym (offer_outside S h empty script))
+pub sought_outside : (script : ScriptValue) (S : State) (h : ℕ) → AreOutside S → sought script S h ≡ target_of (offer script S h)
+sought_outside script S h all =
+    ap (λ o. target_of (unkicked_offer script S h o)) (all.outside h) ∙ ap target_of (sym (offer_outside S h all script))
 
-module _ (script : ScriptValue) (S : State) (h : ℕ) (empty : IsEmpty S) (l : ScriptLine) (next : next_line script h (ended_by S h) ≡ Some l) where
+module _ (script : ScriptValue) (S : State) (h : ℕ) (all : AreOutside S) (l : ScriptLine) (next : next_line script h (ended_by S h) ≡ Some l) where
   abbrev by_behind : Option ℕ → Offer
   by_behind o = unless_behind o (line_offer S h l.line)
 
   offer_next : offer script S h ≡ by_behind (first_behind script S l.phase)
-  offer_next = offer_outside S h empty script ∙ ap (outside_offer script S h) next
+  offer_next = offer_outside S h all script ∙ ap (outside_offer script S h) next
 
   -- where no hart is behind, that of its line
   pub offered : first_behind script S l.phase ≡ None → offer script S h ≡ line_offer S h l.line

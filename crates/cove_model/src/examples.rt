@@ -3,7 +3,7 @@
 
 ghost use Rattle.std.specs.Prelude.{◌≡◌, ℕ, List, [], ◌∷◌, ◌++◌, map, replicate, Some, None, true, false, codes, String, string_bytes};
 ghost use Rattle.std.specs.declared.alloc.Global.{Global};
-ghost use Rattle.cove_base.specs.declared.calls.HostCall.TheVariants.{Convert, Destroy, Info, LocalFence, Reclaim};
+ghost use Rattle.cove_base.specs.declared.calls.HostCall.TheVariants.{Convert, Info, LocalFence, Reclaim, Run};
 ghost use Rattle.cove_base.specs.declared.events.How.TheVariants.{Hit, Walk};
 ghost use Rattle.cove_base.specs.declared.statuses.Status.TheVariants.{InvalidAddress, InvalidParam, NotSupported, Success};
 ghost use Rattle.cove_model.specs.Cached.{IsCached, IsQuiet};
@@ -41,7 +41,7 @@ pub fn worked_refusals()
     ensures past_memory { refusal fresh 0 (Convert 0x10000 1) ≡ refused InvalidAddress }
     ensures over_the_end { refusal fresh 0 (Convert 0xe000 3) ≡ refused InvalidAddress }
     ensures twice { refusal (state_after fresh 0 (Convert 0x4000 1)) 0 (Convert 0x4000 1) ≡ refused InvalidAddress }
-    ensures not_built { refusal fresh 0 (Destroy 1) ≡ refused NotSupported }
+    ensures not_built { refusal fresh 0 (Run 1 0 1) ≡ refused NotSupported }
     ensures info { reply_to fresh 0 Info ≡ record { status = Success; value = 1 } }
 {}
 

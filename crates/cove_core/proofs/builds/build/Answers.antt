@@ -17,5 +17,4 @@ pub returns-clause-fresh : goal.returns-clause-fresh
 returns-clause-fresh c =
     let script = c.script.view_is in
     let count = c.all_words.ensures ∙ ap (λ (s : ScriptValue). all_words s.pages s.harts) script in
-    built_fresh c.args.script.now _ _ _ _ _ (record { pages = ap (λ (s : ScriptValue). s.pages) script; harts = ap (λ (s : ScriptValue). s.harts) script })
-    c.in_ok-memory.ensures c.in_ok-history.ensures c.in_ok-progress.ensures (c.in_ok-words.ensures ∙ ap (λ n. replicate n 0) count) c.in_ok-harts.ensures
+    built_fresh c.args.script.now _ _ _ _ _ c.in_ok-ground.ensures c.in_ok-history.ensures c.in_ok-progress.ensures (c.in_ok-words.ensures ∙ ap (λ n. replicate n 0) count) c.in_ok-harts.ensures

@@ -3,7 +3,7 @@ use Rattle.std.proofs.Common.{ℕ, ◌≡◌, ◌<◌, ◌∷◌, ◌++◌, [], 
 use Rattle.cove_base.specs.Guards.{guard_after}
 use Rattle.cove_base.specs.declared.events.Entry.{Entry}
 use Rattle.cove_base.specs.declared.limits.TheConstants.{ENTRY_LIMIT}
-use Rattle.cove_core.proofs.Making.{allows_on, behind_at, can_do, can_on, entry_from, has_next, last_entry, made, next_at, none_behind, performing, some_last}
+use Rattle.cove_core.proofs.Making.{allows_on, behind_at, can_do, entry_from, has_next, last_entry, made, next_at, none_behind, performing, some_last}
 use Rattle.cove_core.specs.Made.{IsMade, IsPerformed}
 use Rattle.cove_hart.specs.HartStates.{hart_value}
 use Rattle.cove_hart.specs.declared.states.HartState.{HartState}
@@ -59,8 +59,7 @@ perform-event-requires-clause-can g c =
     let at : slice_get script.lines held.place ≡ Some l = sym c.line_at.ensures.line ∙ c.in-Some.is in
     let size = c.len-place.ensures.number in
     let room : length mon.history < ENTRY_LIMIT = omega (arith, c.if-place.false) in
-    can_on script.pages mon.ground.pages script.harts mon.ground.harts kept.board.pages kept.board.harts words mon.ground.memory held l.line
-    (can_do script c.line_at.ensures.within words mon kept held c.requires.fits l at (next_at script mon.history held c.requires.fits l at) room l.line refl)
+    can_do script c.line_at.ensures.within words mon kept held c.requires.fits l at (next_at script mon.history held c.requires.fits l at) room l.line refl
 
 pub perform-event-requires-clause-allowed : goal.perform-event-requires-clause-allowed
 perform-event-requires-clause-allowed g c =
@@ -78,7 +77,7 @@ enter-requires-clause-performed g c =
     let step = c.perform-event in
     let none = none_behind script mon.history l c.first_behind.result c.in_default-first_behind.is c.first_behind.ensures.none in
     let did = performing script c.line_at.ensures.within (g.W.Words.words c.args.w.now) mon c.requires.kept held c.requires.fits refl c.requires.prepared l (sym c.line_at.ensures.line ∙ c.in-Some.is) none
-    (g.W.Words.words step.new.w) step.new.g step.new.hart.rings step.result step.ensures.board step.ensures.done in
+    (g.W.Words.words step.new.w) step.new.g step.new.hart.rings step.result step.ensures.done in
     subst (λ h. IsPerformed script (g.W.Words.words step.new.w) (record { ground = step.new.g; history = mon.history; progress = mon.progress }) (hart_value h) step.result) (sym step.ensures.hart) did.performed
 
 pub returns-clause-made : goal.returns-clause-made
@@ -93,7 +92,7 @@ returns-clause-made g c =
     let now = g.W.Words.words step.new.w in
     let event = step.result in
     let none = none_behind script mon.history l c.first_behind.result c.in_default-first_behind.is c.first_behind.ensures.none in
-    let did = performing script c.line_at.ensures.within words mon c.requires.kept held c.requires.fits refl c.requires.prepared l at none now step.new.g step.new.hart.rings event step.ensures.board step.ensures.done in
+    let did = performing script c.line_at.ensures.within words mon c.requires.kept held c.requires.fits refl c.requires.prepared l at none now step.new.g step.new.hart.rings event step.ensures.done in
     let hart : step.new.hart.hart ≡ c.args.hart.now.hart = ap (λ (h : HartState). h.hart) step.ensures.hart in
     let entry : Entry = entry_from c.args.hart.now.hart event in
     let grown : c.enter.new.mon.history ≡ mon.history ++ entry ∷ [] =

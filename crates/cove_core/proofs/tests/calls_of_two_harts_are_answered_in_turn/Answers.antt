@@ -1,6 +1,4 @@
 use Rattle.std.proofs.Common.{ap, length, subst, ◌∙◌, arith}
-use Rattle.cove_model.specs.Histories.{after}
-use Rattle.cove_model.specs.WordLaws.{Stand}
 use Rattle.cove_model.specs.WordsStand.{FencesWithin}
 use Rattle.cove_core.proofs.tests.calls_of_two_harts_are_answered_in_turn.Goals as goal
 
@@ -11,13 +9,12 @@ loop-second-init g c =
     let words = c.in_ok-built.built.words in
     let fresh = c.in_ok-built.ensures.fresh in
     let kept = fresh.ready.kept in
-    let S = after script c.in_ok-built.built.mon.history in
     let same = subst (λ n. FencesWithin n script.harts words (length c.in_ok-built.built.mon.history)) board.0 kept.fences in
     let both = subst (λ n. FencesWithin 16 n words (length c.in_ok-built.built.mon.history)) board.1 same in
     record {
       pages = kept.board.pages ∙ board.0;
       harts = kept.board.harts ∙ board.1;
-      stands = (script, c.in_ok-built.built.mon.history, subst (λ n. Stand 16 n words S) board.1 (subst (λ n. Stand n script.harts words S) board.0 kept.stands), kept.frames);
+      stands = (script, c.in_ok-built.built.mon.history, kept.stands);
       fences = subst (FencesWithin 16 2 words) (ap length fresh.unplayed) both;
     }
 
@@ -33,5 +30,8 @@ pub answer-reply-requires : goal.answer-reply-requires
 answer-reply-requires g c = record {
   board = (c.loop-second.invariant.pages, c.loop-second.invariant.harts);
   stands = c.loop-second.invariant.stands;
-  room = omega (arith, c.loop-second.invariant.fences.epoch, c.loop-second.auto.second-index-end);
+  room = record {
+    epoch = omega (arith, c.loop-second.invariant.fences.epoch, c.loop-second.auto.second-index-end);
+    numbers = λ t low high. omega (arith, c.loop-second.invariant.fences.numbers t low high, c.loop-second.auto.second-index-end);
+  };
 }

@@ -1,0 +1,76 @@
+//! The host's side: the one call by which each call of the host is answered.
+
+ghost use Rattle.std.specs.Prelude.{◌≡◌, ◌<◌};
+ghost use Rattle.cove_host.specs.Called.{IsReady};
+ghost use Rattle.cove_host.specs.Served.{IsServed};
+ghost use Rattle.cove_model.specs.LawfulStores.{AllowsLawful};
+
+use crate::creation::create_tvm;
+use crate::destruction::destroy_tvm;
+use crate::fences::{global_fence, local_fence};
+use crate::finalization::finalize_tvm;
+use crate::info::get_tsm_info;
+use crate::measured_pages::add_measured_pages;
+use crate::owners::{convert_pages, reclaim_pages};
+use crate::regions::add_memory_region;
+use crate::shared_pages::add_shared_pages;
+use crate::table_pages::add_page_table_pages;
+use crate::vcpu_creation::create_vcpu;
+use crate::zero_pages::add_zero_pages;
+use cove_base::{HartId, HostCall, Reply, Status, Words};
+use cove_tvm::Ground;
+
+/// Who answers the calls of the host.
+pub trait HostSide {
+    /// Answers a call of a hart's. A call that is not built is not supported.
+    fn covh<W: Words>(&mut self, w: &mut W, g: &mut Ground, h: HartId, c: HostCall) -> Reply
+        requires ready { IsReady (W.words w.old) g.old }
+        requires on_board { h.0 < g.old.harts }
+        requires allowed { AllowsLawful (W.allows (W.guard w.old)) g.old.pages g.old.harts h.0 (W.words w.old) }
+        ensures served { IsServed h.0 c (W.words w.old) (W.words w.new) g.old g.new result }
+        ensures guard { W.guard w.new ≡ W.guard w.old };
+}
+
+/// The calls of this crate.
+#[derive(Clone, Copy)]
+pub struct Covh;
+
+impl HostSide for Covh {
+    fn covh<W: Words>(&mut self, w: &mut W, g: &mut Ground, h: HartId, c: HostCall) -> Reply {
+        match c {
+            HostCall::Convert { base, n } => convert_pages(w, g, h, base, n),
+            HostCall::GlobalFence => global_fence(w, g, h),
+            HostCall::LocalFence => local_fence(w, g, h),
+            HostCall::Reclaim { base, n } => reclaim_pages(w, g, h, base, n),
+            HostCall::Create { root, state } => create_tvm(w, g, h, root, state),
+            HostCall::Region { t, gpa, len } => add_memory_region(w, g, h, t, gpa, len),
+            HostCall::Tables { t, base, n } => add_page_table_pages(w, g, h, t, base, n),
+            HostCall::Measured {
+                t,
+                src,
+                dst,
+                n,
+                gpa,
+            } => add_measured_pages(w, g, h, t, src, dst, n, gpa),
+            HostCall::Vcpu { t, v, state } => create_vcpu(w, g, h, t, v, state),
+            HostCall::Finalize { t, pc, arg } => finalize_tvm(w, g, h, t, pc, arg),
+            HostCall::Zero { t, base, n, gpa } => add_zero_pages(w, g, h, t, base, n, gpa),
+            HostCall::Shared { t, base, n, gpa } => add_shared_pages(w, g, h, t, base, n, gpa),
+            HostCall::Destroy { t } => destroy_tvm(w, g, h, t),
+            HostCall::Info => get_tsm_info(w, g, h),
+            HostCall::Run { .. }
+            | HostCall::Invalidate { .. }
+            | HostCall::TvmFence { .. }
+            | HostCall::Validate { .. }
+            | HostCall::Remove { .. }
+            | HostCall::Kick { .. }
+            | HostCall::Bind { .. }
+            | HostCall::Unbind { .. }
+            | HostCall::Unbound { .. }
+            | HostCall::Inject { .. } => Reply {
+                status: Status::NotSupported,
+                value: 0,
+            },
+        }
+    }
+}
