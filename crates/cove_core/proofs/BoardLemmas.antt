@@ -8,7 +8,7 @@ use Rattle.cove_base.specs.PageWords.{IsPageWord}
 use Rattle.cove_base.specs.Scripts.{ScriptValue}
 use Rattle.cove_core.specs.Kept.{IsBoard, IsKept}
 use Rattle.cove_core.specs.declared.monitors.Mon.{Mon}
-use Rattle.cove_host.specs.Called.{IsMet, IsReady}
+use Rattle.cove_tvm.specs.Called.{IsMet, IsReady}
 use Rattle.cove_model.proofs.Boards.{board_of}
 use Rattle.cove_model.proofs.Frames.{framed_done}
 use Rattle.cove_model.proofs.Histories.{sound}

@@ -1,6 +1,6 @@
 -- What a call of a hart needs.
 use Rattle.std.specs.Prelude.{ℕ, ◌<◌, List}
-use Rattle.cove_host.specs.Called.{IsReady}
+use Rattle.cove_tvm.specs.Called.{IsReady}
 use Rattle.cove_tvm.specs.declared.ground.Ground.{Ground}
 
 -- what a call of a hart needs of words and ground

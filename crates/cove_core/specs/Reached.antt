@@ -21,7 +21,7 @@ use Rattle.cove_base.specs.declared.walks.Noted.{Noted}
 use Rattle.cove_base.specs.declared.events.Walked.{Walked}
 use Rattle.cove_base.specs.declared.events.Walked.TheVariants as walks
 use Rattle.cove_core.specs.CanCall.{CanCall}
-use Rattle.cove_host.specs.Served.{IsServed}
+use Rattle.cove_tvm.specs.Served.{IsServed}
 use Rattle.cove_core.specs.declared.accesses.Reach.{Reach}
 use Rattle.cove_core.specs.declared.accesses.Reach.TheVariants as reach
 use Rattle.cove_hart.specs.Needs.{access_need}

@@ -2,12 +2,12 @@
 
 ghost use Rattle.std.specs.Prelude.{◌≡◌};
 ghost use Rattle.cove_core.specs.CanCall.{CanCall};
-ghost use Rattle.cove_host.specs.Served.{IsServed};
 ghost use Rattle.cove_model.specs.LawfulStores.{AllowsLawful};
+ghost use Rattle.cove_tvm.specs.Served.{IsServed};
 
 use cove_base::{HartId, HostCall, Reply, Words};
-use cove_host::{Covh, HostSide};
-use cove_tvm::Ground;
+use cove_host::Covh;
+use cove_tvm::{Ground, HostSide};
 
 /// Answers a call of a hart's. A call that is not built is not supported.
 pub fn call<W: Words>(w: &mut W, g: &mut Ground, h: HartId, c: HostCall) -> Reply

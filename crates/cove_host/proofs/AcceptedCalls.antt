@@ -5,7 +5,7 @@ use Rattle.cove_base.specs.Places.{count_word}
 use Rattle.cove_base.specs.Stores.{AllAllowed, stored}
 use Rattle.cove_base.specs.declared.calls.HostCall.{HostCall}
 use Rattle.cove_base.specs.declared.statuses.Status.TheVariants.{Success}
-use Rattle.cove_host.specs.Called.{Called, IsMet}
+use Rattle.cove_tvm.specs.Called.{Called, IsMet}
 use Rattle.cove_model.specs.HostCalls.{rule}
 use Rattle.cove_model.specs.LawfulStores.{IsLawful}
 use Rattle.cove_model.specs.Refusals.{first_failing}

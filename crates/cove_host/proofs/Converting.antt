@@ -12,7 +12,7 @@ use Rattle.cove_host.proofs.AcceptedCalls.{accepts}
 use Rattle.cove_host.proofs.CheckedLemmas.{first_passes, none_fails}
 use Rattle.cove_host.proofs.Creating.{stays_within}
 use Rattle.cove_host.proofs.SharedPages.{in_run, unshared_words}
-use Rattle.cove_host.specs.Called.{Called, IsReady}
+use Rattle.cove_tvm.specs.Called.{Called, IsReady}
 use Rattle.cove_host.specs.Checked.{all_checked}
 use Rattle.cove_model.proofs.LawfulProofs.{convert_is_lawful}
 use Rattle.cove_model.specs.Checks.{AllHost, Inside, NoneShared}

@@ -13,7 +13,7 @@ use Rattle.cove_base.specs.declared.statuses.Reply.{Reply}
 use Rattle.cove_base.specs.declared.statuses.Status.TheVariants.{Success}
 use Rattle.cove_host.proofs.CheckedLemmas.{first_passes, none_fails, one_fails, passes}
 use Rattle.cove_host.proofs.ReadyWords.{fences_within}
-use Rattle.cove_host.specs.Called.{Called, IsReady}
+use Rattle.cove_tvm.specs.Called.{Called, IsReady}
 use Rattle.cove_host.specs.Checked.{all_checked, checked}
 use Rattle.cove_model.specs.Checks.{AllFree, Inside, RoomForTvm, RootAligned, StateApart}
 use Rattle.cove_model.specs.HostCalls.{rule}

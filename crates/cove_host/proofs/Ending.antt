@@ -12,7 +12,7 @@ use Rattle.cove_host.proofs.CheckedLemmas.{first_passes, none_fails}
 use Rattle.cove_host.proofs.Going.{leads_on}
 use Rattle.cove_host.proofs.LifeTold.{both_live}
 use Rattle.cove_host.proofs.TakenPages.{all_destroys, all_lawful, all_own}
-use Rattle.cove_host.specs.Called.{Called, IsMet, IsReady}
+use Rattle.cove_tvm.specs.Called.{Called, IsMet, IsReady}
 use Rattle.cove_host.specs.Checked.{all_checked}
 use Rattle.cove_host.specs.Ended.{HasEnded, IsEnding, MayEnd}
 use Rattle.cove_host.specs.Inside.{is_inside}

@@ -11,7 +11,7 @@ use Rattle.cove_base.specs.declared.statuses.Status.TheVariants.{AlreadyStarted,
 use Rattle.cove_fence.specs.Fences.{FenceWords, HaveAnswered, IsBehind, answer_stores, begin_stores}
 use Rattle.cove_host.proofs.AcceptedCalls.{accepts, rises_within}
 use Rattle.cove_host.proofs.Creating.{refuses}
-use Rattle.cove_host.specs.Called.{Called, IsReady}
+use Rattle.cove_tvm.specs.Called.{Called, IsReady}
 use Rattle.cove_model.proofs.LawfulProofs.{global_fence_is_lawful, local_fence_is_lawful}
 use Rattle.cove_model.proofs.ToldProofs.{words_tell_answered, words_tell_lowest}
 use Rattle.cove_model.specs.LawfulStores.{AllowsLawful, IsLawful}

@@ -6,7 +6,7 @@ use Rattle.cove_base.specs.declared.statuses.Status.TheVariants.{Success}
 use Rattle.cove_host.proofs.PassedCalls.{AllPass, passed_call}
 use Rattle.cove_host.proofs.CheckedLemmas.{first_passes}
 use Rattle.cove_host.proofs.LifeTold.{both_live}
-use Rattle.cove_host.specs.Called.{Called}
+use Rattle.cove_tvm.specs.Called.{Called}
 use Rattle.cove_host.specs.Finalized.{IsFinalized}
 use Rattle.cove_model.specs.Checks.{HasSomeCpu, IsBuilding, Live, PlaceAligned}
 use Rattle.cove_model.specs.HostCalls.{rule}

@@ -8,7 +8,7 @@ use Rattle.cove_base.specs.declared.calls.HostCall.TheVariants.{Measured}
 use Rattle.cove_base.specs.declared.statuses.Status.TheVariants.{Success}
 use Rattle.cove_host.proofs.CheckedLemmas.{first_passes, none_fails}
 use Rattle.cove_host.proofs.GrowingTvm.{Grows, from_free, from_private, grows, owns, run_counts, run_fences, run_lawful, run_long}
-use Rattle.cove_host.specs.Called.{Called, IsReady}
+use Rattle.cove_tvm.specs.Called.{Called, IsReady}
 use Rattle.cove_host.specs.Checked.{all_checked}
 use Rattle.cove_host.specs.Mapped.{MapsIn}
 use Rattle.cove_host.specs.MeasuredRuns.{MeasuresIn, MeasuresOf, frames_from}

@@ -13,7 +13,7 @@ use Rattle.cove_base.specs.declared.numbers.Role.TheVariants.{Data}
 use Rattle.cove_base.specs.declared.statuses.Status.TheVariants.{Success}
 use Rattle.cove_host.proofs.CheckedLemmas.{first_passes, none_fails}
 use Rattle.cove_host.proofs.LifeTold.{both_live}
-use Rattle.cove_host.specs.Called.{Called, IsReady}
+use Rattle.cove_tvm.specs.Called.{Called, IsReady}
 use Rattle.cove_host.specs.Checked.{all_checked}
 use Rattle.cove_host.specs.Mapped.{MapsIn, MapsOf, MayMapBy}
 use Rattle.cove_model.specs.Checks.{AllFree, AllPrivate, EnoughTables, Inside, IsRunnable, Live, Unmapped}

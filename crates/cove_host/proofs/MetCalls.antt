@@ -4,7 +4,7 @@ use Rattle.std.proofs.lemmas.Option.{none-some}
 use Rattle.cove_base.specs.declared.calls.HostCall.{HostCall}
 use Rattle.cove_base.specs.declared.limits.TheConstants.{ENTRY_LIMIT}
 use Rattle.cove_base.specs.declared.statuses.Reply.{Reply}
-use Rattle.cove_host.specs.Called.{Called, IsMet, IsReady}
+use Rattle.cove_tvm.specs.Called.{Called, IsMet, IsReady}
 use Rattle.cove_model.proofs.Frames.{framed_call}
 use Rattle.cove_model.proofs.Moves.{outcome_state}
 use Rattle.cove_model.proofs.Ordering.{orderly_call}

@@ -5,7 +5,7 @@ use Rattle.std.specs.List.{range_with_len}
 use Rattle.cove_base.specs.Places.{all_words, epoch_word, tvm_word}
 use Rattle.cove_base.specs.Scripts.{ScriptValue}
 use Rattle.cove_host.proofs.MetCalls.{AllOutside, none_seated}
-use Rattle.cove_host.specs.Called.{IsMet}
+use Rattle.cove_tvm.specs.Called.{IsMet}
 use Rattle.cove_mem.specs.Frames.{zeros}
 use Rattle.cove_model.proofs.Histories.{sound}
 use Rattle.cove_model.proofs.Ordering.{orderly}

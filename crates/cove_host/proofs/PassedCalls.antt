@@ -6,7 +6,7 @@ use Rattle.cove_base.specs.declared.calls.HostCall.{HostCall}
 use Rattle.cove_base.specs.declared.statuses.Status.TheVariants.{Success}
 use Rattle.cove_host.proofs.AcceptedCalls.{accepts, rises_within}
 use Rattle.cove_host.proofs.CheckedLemmas.{none_fails}
-use Rattle.cove_host.specs.Called.{Called, IsMet}
+use Rattle.cove_tvm.specs.Called.{Called, IsMet}
 use Rattle.cove_host.specs.Checked.{all_checked}
 use Rattle.cove_model.specs.HostCalls.{rule}
 use Rattle.cove_model.specs.LawfulStores.{IsLawful}

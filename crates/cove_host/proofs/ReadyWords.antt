@@ -2,7 +2,7 @@
 use Rattle.std.proofs.Common.{ℕ, ◌+◌, ◌^◌, ◌<◌, ◌≤◌, List, arith}
 use Rattle.cove_base.specs.PageWords.{IsPageWord}
 use Rattle.cove_base.specs.declared.limits.TheConstants.{ENTRY_LIMIT}
-use Rattle.cove_host.specs.Called.{IsReady}
+use Rattle.cove_tvm.specs.Called.{IsReady}
 use Rattle.cove_model.proofs.SharedLeaves.{stores_count_shared}
 use Rattle.cove_model.proofs.ToldProofs.{words_are_words}
 use Rattle.cove_model.specs.WordsStand.{FencesWithin, maps_of}

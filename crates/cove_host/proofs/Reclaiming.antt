@@ -10,7 +10,7 @@ use Rattle.cove_base.specs.declared.statuses.Status.TheVariants.{Success}
 use Rattle.cove_host.proofs.AcceptedCalls.{accepts}
 use Rattle.cove_host.proofs.CheckedLemmas.{first_passes, none_fails}
 use Rattle.cove_host.proofs.Creating.{stays_within}
-use Rattle.cove_host.specs.Called.{Called, IsReady}
+use Rattle.cove_tvm.specs.Called.{Called, IsReady}
 use Rattle.cove_host.specs.Checked.{all_checked}
 use Rattle.cove_model.proofs.LawfulProofs.{reclaim_is_lawful}
 use Rattle.cove_model.proofs.Runs.{every_at}

@@ -13,7 +13,7 @@ use Rattle.cove_base.specs.declared.statuses.Status.TheVariants.{Success}
 use Rattle.cove_host.proofs.PassedCalls.{AllPass, passed_call}
 use Rattle.cove_host.proofs.CheckedLemmas.{first_passes, passes}
 use Rattle.cove_host.proofs.LifeTold.{both_live}
-use Rattle.cove_host.specs.Called.{Called}
+use Rattle.cove_tvm.specs.Called.{Called}
 use Rattle.cove_host.specs.Checked.{all_checked, checked}
 use Rattle.cove_host.specs.MoreRegions.{AddsRegion, HasRegion, has_all_regions, meets_region}
 use Rattle.cove_model.specs.Checks.{IsArea, IsBuilding, Live, NoOverlap, RoomForRegion}

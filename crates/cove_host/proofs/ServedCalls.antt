@@ -4,8 +4,8 @@ use Rattle.cove_base.specs.declared.calls.HostCall.{HostCall}
 use Rattle.cove_base.specs.declared.statuses.Reply.{Reply}
 use Rattle.cove_base.specs.declared.statuses.Status.TheVariants.{NotSupported}
 use Rattle.cove_host.proofs.Creating.{stays_within}
-use Rattle.cove_host.specs.Called.{Called}
-use Rattle.cove_host.specs.Served.{IsServed}
+use Rattle.cove_tvm.specs.Called.{Called}
+use Rattle.cove_tvm.specs.Served.{IsServed}
 use Rattle.cove_model.specs.Answers.{is_built, refusal, reply_by, state_after_rule}
 use Rattle.cove_model.specs.HostCalls.{Rule, rule}
 use Rattle.cove_model.specs.Refusals.{first_failing, plain}

@@ -11,7 +11,7 @@ use Rattle.cove_base.specs.declared.statuses.Status.TheVariants.{Success}
 use Rattle.cove_host.proofs.PassedCalls.{AllPass, passed_call}
 use Rattle.cove_host.proofs.CheckedLemmas.{first_passes, passes}
 use Rattle.cove_host.proofs.LifeTold.{both_live}
-use Rattle.cove_host.specs.Called.{Called, IsReady}
+use Rattle.cove_tvm.specs.Called.{Called, IsReady}
 use Rattle.cove_host.specs.Checked.{all_checked, checked}
 use Rattle.cove_model.specs.Checks.{AllFree, Inside, Live}
 use Rattle.cove_model.specs.HostCalls.{rule}

@@ -1,4 +1,3 @@
-pub mod Called
 pub mod Checked
 pub mod Ended
 pub mod Finalized
@@ -11,5 +10,4 @@ pub mod MeasuredRuns
 pub mod MoreRegions
 pub mod Raised
 pub mod Released
-pub mod Served
 pub mod Zeros

@@ -2,7 +2,7 @@
 
 ghost use Rattle.std.specs.Prelude.{◌≡◌, ◌+◌, ◌/◌, ◌≤◌, ℕ, List, OnOk};
 ghost use Rattle.cove_base.specs.Unchanged.{Unchanged};
-ghost use Rattle.cove_host.specs.Called.{IsReady};
+ghost use Rattle.cove_tvm.specs.Called.{IsReady};
 ghost use Rattle.cove_host.specs.Checked.{checked};
 ghost use Rattle.cove_model.specs.Checks.{AllFree, Inside, RoomForTvm, RootAligned, StateApart};
 ghost use Rattle.cove_model.specs.Refusals.{Aligned, plain};

@@ -3,7 +3,7 @@
 ghost use Rattle.std.specs.Prelude.{◌≡◌, ◌-◌, ◌<◌, ◌≤◌, ℕ, OnOk, Some, false};
 ghost use Rattle.cove_base.specs.Unchanged.{Unchanged};
 ghost use Rattle.cove_base.specs.declared.calls.HostCall.TheVariants.{Destroy};
-ghost use Rattle.cove_host.specs.Called.{Called, IsReady};
+ghost use Rattle.cove_tvm.specs.Called.{Called, IsReady};
 ghost use Rattle.cove_host.specs.Checked.{all_checked, checked};
 ghost use Rattle.cove_host.specs.Ended.{HasEnded, MayEnd};
 ghost use Rattle.cove_host.specs.Inside.{IsFirstInside, is_inside, is_word_of};

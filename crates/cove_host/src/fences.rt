@@ -4,7 +4,7 @@ ghost use Rattle.std.specs.Prelude.{◌≡◌, ◌<◌, ◌≤◌};
 ghost use Rattle.cove_base.specs.Places.{epoch_word};
 ghost use Rattle.cove_base.specs.declared.calls.HostCall.TheVariants.{GlobalFence, LocalFence};
 ghost use Rattle.cove_base.specs.declared.limits.TheConstants.{HART_LIMIT, PAGE_LIMIT};
-ghost use Rattle.cove_host.specs.Called.{Called, IsReady};
+ghost use Rattle.cove_tvm.specs.Called.{Called, IsReady};
 ghost use Rattle.cove_model.specs.LawfulStores.{AllowsLawful};
 
 use cove_base::{HartId, Reply, Status, Words, epoch_word};

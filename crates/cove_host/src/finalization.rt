@@ -3,7 +3,7 @@
 ghost use Rattle.std.specs.Prelude.{◌≡◌, ◌-◌, ◌++◌, ℕ, List, [], ◌∷◌, Some, replicate};
 ghost use Rattle.cove_base.specs.Registers.{registers};
 ghost use Rattle.cove_base.specs.declared.calls.HostCall.TheVariants.{Finalize};
-ghost use Rattle.cove_host.specs.Called.{Called};
+ghost use Rattle.cove_tvm.specs.Called.{Called};
 ghost use Rattle.cove_host.specs.Checked.{all_checked};
 ghost use Rattle.cove_host.specs.Finalized.{IsFinalized};
 ghost use Rattle.cove_model.specs.HostCalls.{rule};

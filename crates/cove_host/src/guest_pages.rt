@@ -4,7 +4,7 @@ ghost use Rattle.std.specs.Prelude.{◌≡◌, ◌↔◌, ◌+◌, ◌/◌, ◌^
 ghost use Rattle.cove_base.specs.Tables.{IsTree, leaf_at};
 ghost use Rattle.cove_base.specs.Unchanged.{Unchanged};
 ghost use Rattle.cove_base.specs.declared.limits.TheConstants.{RANGE_LIMIT};
-ghost use Rattle.cove_host.specs.Called.{IsReady};
+ghost use Rattle.cove_tvm.specs.Called.{IsReady};
 ghost use Rattle.cove_host.specs.Checked.{checked};
 ghost use Rattle.cove_host.specs.GuestRuns.{AreOfKind, EachGuest, HasEnough, HaveNoLeaf, missing_of};
 ghost use Rattle.cove_model.specs.Checks.{AllPrivate, AllShared, EnoughTables, Unmapped};

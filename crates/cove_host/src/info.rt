@@ -3,7 +3,7 @@
 ghost use Rattle.std.specs.Prelude.{◌≡◌, ◌<◌};
 ghost use Rattle.cove_base.specs.Unchanged.{Unchanged};
 ghost use Rattle.cove_base.specs.declared.calls.HostCall.TheVariants.{Info};
-ghost use Rattle.cove_host.specs.Called.{Called};
+ghost use Rattle.cove_tvm.specs.Called.{Called};
 
 use cove_base::{HartId, Reply, Status, Words};
 use cove_tvm::Ground;

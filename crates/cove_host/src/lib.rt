@@ -8,13 +8,13 @@
 mod checks;
 mod clearing;
 mod counts;
+mod covh;
 mod creation;
 mod destruction;
 mod fences;
 mod finalization;
 mod frames;
 mod guest_pages;
-mod host_side;
 mod info;
 mod lives;
 mod mapping;
@@ -28,11 +28,11 @@ mod table_pages;
 mod vcpu_creation;
 mod zero_pages;
 
+pub use covh::Covh;
 pub use creation::create_tvm;
 pub use destruction::destroy_tvm;
 pub use fences::{global_fence, local_fence};
 pub use finalization::finalize_tvm;
-pub use host_side::{Covh, HostSide};
 pub use info::get_tsm_info;
 pub use measured_pages::add_measured_pages;
 pub use owners::{convert_pages, reclaim_pages};

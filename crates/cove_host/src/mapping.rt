@@ -3,7 +3,7 @@
 ghost use Rattle.std.specs.Prelude.{◌≡◌, ◌+◌, ◌/◌, ◌^◌, ◌≤◌, [], ◌∷◌, OnOk, Some};
 ghost use Rattle.cove_base.specs.Unchanged.{Unchanged};
 ghost use Rattle.cove_base.specs.declared.limits.TheConstants.{RANGE_LIMIT};
-ghost use Rattle.cove_host.specs.Called.{IsReady};
+ghost use Rattle.cove_tvm.specs.Called.{IsReady};
 ghost use Rattle.cove_host.specs.Checked.{all_checked};
 ghost use Rattle.cove_host.specs.Mapped.{MapsIn, MapsOf, MapsRun, MayMapBy};
 ghost use Rattle.cove_model.specs.Checks.{AllPrivate, AllShared, EnoughTables, Unmapped};

@@ -7,7 +7,7 @@ ghost use Rattle.cove_base.specs.Stores.{AllAllowed, fills, stored};
 ghost use Rattle.cove_base.specs.Unchanged.{Unchanged};
 ghost use Rattle.cove_base.specs.declared.calls.HostCall.TheVariants.{Convert, Reclaim};
 ghost use Rattle.cove_base.specs.declared.limits.TheConstants.{PAGE_LIMIT};
-ghost use Rattle.cove_host.specs.Called.{Called, IsReady};
+ghost use Rattle.cove_tvm.specs.Called.{Called, IsReady};
 ghost use Rattle.cove_host.specs.Checked.{all_checked, checked};
 ghost use Rattle.cove_host.specs.Zeros.{AreZeros};
 ghost use Rattle.cove_model.specs.Checks.{AllHost, NoneShared};

@@ -3,7 +3,7 @@
 ghost use Rattle.std.specs.Prelude.{◌≡◌, ◌+◌, ◌-◌, ◌/◌, ◌^◌, ◌<◌, ◌≤◌, ℕ, List, OnOk, Some};
 ghost use Rattle.cove_base.specs.Unchanged.{Unchanged};
 ghost use Rattle.cove_base.specs.declared.calls.HostCall.TheVariants.{Region};
-ghost use Rattle.cove_host.specs.Called.{Called};
+ghost use Rattle.cove_tvm.specs.Called.{Called};
 ghost use Rattle.cove_host.specs.Checked.{all_checked, checked};
 ghost use Rattle.cove_host.specs.MoreRegions.{AddsRegion, has_all_regions, meets_region};
 ghost use Rattle.cove_model.specs.Checks.{IsArea, NoOverlap, RoomForRegion};

@@ -1,6 +1,6 @@
 ghost use Rattle.std.specs.Prelude.{◌≡◌, ◌<◌, ◌+◌, ℕ, IfOk, None};
 ghost use Rattle.cove_base.specs.Scripts.{ScriptValue};
-ghost use Rattle.cove_host.specs.Called.{IsMet, IsReady};
+ghost use Rattle.cove_tvm.specs.Called.{IsMet, IsReady};
 ghost use Rattle.cove_model.specs.States.{State};
 ghost use Rattle.cove_model.specs.WordsStand.{FencesWithin};
 ghost use Rattle.cove_tvm.specs.GroundLaws.{IsNewGround};

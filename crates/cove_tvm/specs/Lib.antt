@@ -1,4 +1,5 @@
 pub mod BuiltTvms
+pub mod Called
 pub mod DestroyedTvms
 pub mod Entered
 pub mod Examples
@@ -15,6 +16,7 @@ pub mod NewTvms
 pub mod NewVcpus
 pub mod OneTvm
 pub mod PrivateRuns
+pub mod Served
 pub mod SharedRuns
 pub mod Slots
 pub mod Stands

@@ -10,6 +10,7 @@
 mod destroy_laws;
 mod examples;
 mod ground;
+mod host_side;
 mod laws;
 mod machines;
 mod pool_laws;
@@ -25,6 +26,7 @@ pub use examples::{
     worked_numbers, worked_standing,
 };
 pub use ground::Ground;
+pub use host_side::HostSide;
 pub use laws::{building_law, creation_law, frame_law, opening_law};
 pub use machines::{Life, Tvm};
 pub use pool_laws::tables_law;

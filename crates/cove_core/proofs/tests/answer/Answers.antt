@@ -5,7 +5,7 @@ use Rattle.cove_base.specs.declared.events.Entry.{Entry}
 use Rattle.cove_base.specs.declared.events.Event.{Event}
 use Rattle.cove_base.specs.declared.limits.TheConstants.{ENTRY_LIMIT, HART_LIMIT, PAGE_LIMIT}
 use Rattle.cove_core.proofs.Entering.{call_entered}
-use Rattle.cove_host.specs.Called.{IsMet}
+use Rattle.cove_tvm.specs.Called.{IsMet}
 use Rattle.cove_model.proofs.Boards.{board_of}
 use Rattle.cove_model.proofs.Histories.{sound}
 use Rattle.cove_model.proofs.Ordering.{orderly}

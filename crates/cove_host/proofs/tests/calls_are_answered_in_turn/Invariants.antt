@@ -1,6 +1,6 @@
 use Rattle.std.proofs.Common.{◌≡◌}
 use Rattle.cove_host.proofs.MetCalls.{AllOutside}
-use Rattle.cove_host.specs.Called.{IsMet}
+use Rattle.cove_tvm.specs.Called.{IsMet}
 use Rattle.cove_model.specs.States.{State}
 use Rattle.cove_model.specs.WordsStand.{FencesWithin}
 use Rattle.cove_tvm.specs.Stands.{Stands}

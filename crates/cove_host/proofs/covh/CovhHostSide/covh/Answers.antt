@@ -1,7 +1,7 @@
 use Rattle.std.proofs.Common.{rules, ◌≡◌, false, refl}
 use Rattle.cove_host.proofs.ServedCalls.{built_served, unbuilt_served}
 use Rattle.cove_model.specs.Answers.{is_built}
-use Rattle.cove_host.proofs.host_side.CovhHostSide.covh.Goals as goal
+use Rattle.cove_host.proofs.covh.CovhHostSide.covh.Goals as goal
 
 pub returns-in-Convert-clause-served : goal.returns-in-Convert-clause-served
 returns-in-Convert-clause-served g c = built_served _ _ _ _ _ _ _ _ c.in-Convert.is c.convert_pages.ensures.called refl

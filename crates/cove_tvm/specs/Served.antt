@@ -4,7 +4,7 @@ use Rattle.cove_base.specs.Places.{count_word}
 use Rattle.cove_base.specs.Statuses.{is_success}
 use Rattle.cove_base.specs.declared.calls.HostCall.{HostCall}
 use Rattle.cove_base.specs.declared.statuses.Reply.{Reply}
-use Rattle.cove_host.specs.Called.{IsMet}
+use Rattle.cove_tvm.specs.Called.{IsMet}
 use Rattle.cove_model.specs.Answers.{reply_to, state_after}
 use Rattle.cove_model.specs.LawfulStores.{MakesLawful}
 use Rattle.cove_model.specs.States.{State}

@@ -1,9 +1,4 @@
-//! The host's side: the one call by which each call of the host is answered.
-
-ghost use Rattle.std.specs.Prelude.{◌≡◌, ◌<◌};
-ghost use Rattle.cove_host.specs.Called.{IsReady};
-ghost use Rattle.cove_host.specs.Served.{IsServed};
-ghost use Rattle.cove_model.specs.LawfulStores.{AllowsLawful};
+//! The one call by which each call of the host is answered.
 
 use crate::creation::create_tvm;
 use crate::destruction::destroy_tvm;
@@ -18,18 +13,7 @@ use crate::table_pages::add_page_table_pages;
 use crate::vcpu_creation::create_vcpu;
 use crate::zero_pages::add_zero_pages;
 use cove_base::{HartId, HostCall, Reply, Status, Words};
-use cove_tvm::Ground;
-
-/// Who answers the calls of the host.
-pub trait HostSide {
-    /// Answers a call of a hart's. A call that is not built is not supported.
-    fn covh<W: Words>(&mut self, w: &mut W, g: &mut Ground, h: HartId, c: HostCall) -> Reply
-        requires ready { IsReady (W.words w.old) g.old }
-        requires on_board { h.0 < g.old.harts }
-        requires allowed { AllowsLawful (W.allows (W.guard w.old)) g.old.pages g.old.harts h.0 (W.words w.old) }
-        ensures served { IsServed h.0 c (W.words w.old) (W.words w.new) g.old g.new result }
-        ensures guard { W.guard w.new ≡ W.guard w.old };
-}
+use cove_tvm::{Ground, HostSide};
 
 /// The calls of this crate.
 #[derive(Clone, Copy)]
