@@ -2,8 +2,12 @@
 use Rattle.std.proofs.Common.{◌≡◌, ◌∙◌, ◌⊎◌, ℕ, ◌+◌, ◌-◌, ◌<◌, ◌≤◌, List, [], get_or, length, length-set, set, refl, sym, subst, inl, inr, arith, get_or-set_other}
 use Rattle.std.proofs.lemmas.Bool.{cases_eq}
 use Rattle.std.proofs.lemmas.Grind.{get_or-set_at}
+use Rattle.std.proofs.lemmas.List.{ext_get_or}
 use Rattle.cove_host.specs.Zeros.{AreCopies, AreZeros}
+use Rattle.cove_model.proofs.FrameProofs.{length-zeroed, zeroed_inside, zeroed_outside}
+use Rattle.cove_model.proofs.Runs.{run_cases}
 use Rattle.cove_model.specs.Owners.{zeros}
+use Rattle.cove_model.specs.WordLaws.{zeroed}
 use Rattle.cove_tvm.specs.PrivateRuns.{FillsFrames}
 
 -- one more is filled
@@ -31,6 +35,14 @@ pub zeros_are : (first n : ℕ) (frames new : List (List ℕ)) → FillsFrames f
 zeros_are first n frames new filled page low high =
     let is : first + (page - first) ≡ page = omega (arith, low) in
     subst (λ p. get_or new p [] ≡ zeros) is (filled.here (page - first) (omega (arith, low, high)))
+
+-- and all of them are then what the laws of the definition name
+pub zeroed_is : (first n : ℕ) (frames new : List (List ℕ)) → FillsFrames first n (λ j. zeros) frames new → new ≡ zeroed frames first n
+zeroed_is first n frames new filled =
+    ext_get_or [] new (zeroed frames first n) (filled.count ∙ sym (length-zeroed frames first n)) (λ p on. elim (run_cases first n p) [
+      | inl run ↦ zeros_are first n frames new filled p run.0 run.1 ∙ sym (zeroed_inside frames first n p run.0 run.1 (omega (arith, on, filled.count)))
+      | inr out ↦ filled.others p out ∙ sym (zeroed_outside frames first n p out)
+    ])
 
 -- and those that were copied are copies, since what they are copied from stays
 pub copies_are : (from to n : ℕ) (frames new : List (List ℕ)) → FillsFrames to n (λ j. get_or frames (from + j) []) frames new

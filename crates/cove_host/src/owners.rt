@@ -14,11 +14,11 @@ ghost use Rattle.cove_model.specs.Checks.{AllHost, NoneShared};
 ghost use Rattle.cove_model.specs.HostCalls.{rule};
 ghost use Rattle.cove_model.specs.LawfulStores.{AllowsLawful};
 ghost use Rattle.cove_model.specs.States.{State};
-ghost use Rattle.cove_model.specs.WordLaws.{zeroed};
 ghost use Rattle.cove_tvm.specs.Stands.{Stands};
 
 use crate::checks::{aligned, check, free, inside};
 use crate::fences::epochs;
+use crate::frames::zero_all;
 use crate::runs::{all_host, counted};
 use cove_base::{HartId, Page, PageRange, Reply, Status, Words};
 use cove_mem::Memory;
@@ -73,7 +73,7 @@ pub fn reclaim_pages<W: Words>(w: &mut W, g: &mut Ground, h: HartId, base: u64, 
         Err(reply) => reply,
         Ok(()) => {
             let range = pages_from(base, n);
-            zero_all(&mut g.memory, range);
+            zero_all(&mut g.memory, range.first, range.count);
             give_back(w, &g.memory, range);
             Reply {
                 status: Status::Success,
@@ -117,18 +117,6 @@ fn pages_from(base: u64, n: u64) -> PageRange
     PageRange {
         first: Page((base / 4096) as u32),
         count: n as u32,
-    }
-}
-
-/// Fills each page of a range with zeros.
-pub(crate) fn zero_all(memory: &mut Memory, range: PageRange)
-    requires pages { range.first.0 + range.count ≤ length memory.old }
-    requires limit { range.first.0 + range.count ≤ PAGE_LIMIT }
-    ensures memory { memory.new ≡ zeroed memory.old range.first.0 range.count }
-    ensures zeros { AreZeros memory.new range.first.0 range.count }
-{
-    for i in 0..range.count {
-        memory.zero(Page(range.first.0 + i));
     }
 }
 
