@@ -1,12 +1,13 @@
 -- What is left after the pages of a TVM were taken back.
 use Rattle.std.proofs.Common.{◌≡◌, ◌≢◌, ℕ, zero, suc, ◌+◌, ◌-◌, ◌*◌, ◌/◌, ◌%◌, ◌^◌, ◌<◌, ◌≤◌, ◌⊎◌, ◌∙◌, true, false, true≢false, eqb, eqb-true, eq-eqb, List, [], ◌∷◌, ◌++◌, drop, get_or, length, length-set, set, Option, Some, None, refl, sym, ap, subst, inl, inr, arith, get_or-set_other, get_or-set_same}
 use Rattle.std.proofs.lemmas.Bool.{cases_Bool, cases_eq, or_cases, or_left, or_right}
+use Rattle.std.proofs.lemmas.List.{map-append}
 use Rattle.std.proofs.lemmas.Option.{none-some, same_Some}
 use Rattle.std.specs.List.{range_with_len}
 use Rattle.cove_base.proofs.StoreLemmas.{AllAllowed-split, length-stored, stored-append}
 use Rattle.cove_base.proofs.TableLemmas.{below-absent}
-use Rattle.cove_base.specs.PageWords.{given, host}
-use Rattle.cove_base.specs.Places.{hart_word, table_word}
+use Rattle.cove_base.specs.PageWords.{given, host, released}
+use Rattle.cove_base.specs.Places.{hart_word, page_word, table_word}
 use Rattle.cove_base.specs.Stores.{AllAllowed, stored}
 use Rattle.cove_base.specs.Tables.{Slot, InRoot, InMiddle, InLast, IsLinkSlot, below, entry_at, leaf_at, next_table}
 use Rattle.cove_base.specs.declared.numbers.Role.{Role}
@@ -48,9 +49,8 @@ range_has a (suc n) p there = elim (or_cases (eqb a p) (has p (range_with_len (a
 
 -- ---- lists of stores
 
-pub release_append : (xs ys : List ℕ) → release_stores (xs ++ ys) ≡ release_stores xs ++ release_stores ys
-release_append [] ys = refl
-release_append (x ∷ xs) ys = ap (λ ss. (x, 3) ∷ ss) (release_append xs ys)
+release_append : (xs ys : List ℕ) → release_stores (xs ++ ys) ≡ release_stores xs ++ release_stores ys
+release_append xs ys = map-append (λ p. (page_word p, released)) xs ys
 
 pub release_split : (allows : List ℕ → ℕ → ℕ → Type 0) (words xs ys : List ℕ) → AllAllowed allows words (release_stores (xs ++ ys))
     → AllAllowed allows words (release_stores xs) × AllAllowed allows (stored words (release_stores xs)) (release_stores ys)
