@@ -1,7 +1,9 @@
 -- What is left after the pages of a TVM were taken back.
-use Rattle.std.proofs.Common.{◌≡◌, ◌≢◌, ℕ, zero, suc, ◌+◌, ◌-◌, ◌*◌, ◌/◌, ◌%◌, ◌^◌, ◌<◌, ◌≤◌, ◌⊎◌, ◌∙◌, true, false, true≢false, eqb, eqb-true, eq-eqb, List, [], ◌∷◌, ◌++◌, drop, get_or, length, length-set, set, Option, Some, None, refl, sym, ap, subst, inl, inr, arith, get_or-set_other, get_or-set_same}
+use Rattle.std.proofs.Common.{◌≡◌, ◌≢◌, ℕ, zero, suc, ◌+◌, ◌-◌, ◌*◌, ◌/◌, ◌%◌, ◌^◌, ◌<◌, ◌≤◌, ◌⊎◌, ◌∙◌, true, false, true≢false, eqb, eqb-true, eq-eqb, List, [], ◌∷◌, ◌++◌, get_or, length, length-set, set, Option, Some, None, refl, sym, ap, subst, inl, inr, arith, get_or-set_other, get_or-set_same}
 use Rattle.std.proofs.lemmas.Bool.{cases_Bool, cases_eq, or_cases, or_left, or_right}
+use Rattle.std.proofs.lemmas.Bool.Decides.{nat_tests}
 use Rattle.std.proofs.lemmas.List.{map-append}
+use Rattle.std.proofs.lemmas.List.Folds.{list_any_at}
 use Rattle.std.proofs.lemmas.Option.{none-some, same_Some}
 use Rattle.std.specs.List.{range_with_len}
 use Rattle.cove_base.proofs.StoreLemmas.{AllAllowed-split, length-stored, stored-append}
@@ -35,17 +37,11 @@ use Rattle.cove_tvm.specs.declared.vcpus.VcpuSlot.{VcpuSlot}
 
 has_range : (a n p : ℕ) → a ≤ p → p < a + n → has p (range_with_len a n) ≡ true
 has_range a zero p low high = absurd (omega arith)
-has_range a (suc n) p low high = elim (cases_eq a p) [
-  | inl here ↦ or_left (eqb a p) (has p (range_with_len (a + 1) n)) (eq-eqb a p here)
-  | inr off ↦ or_right (eqb a p) (has p (range_with_len (a + 1) n)) (has_range (a + 1) n p (omega arith) (omega arith))
-]
+has_range a (suc n) p low high = grind (arith, nat_tests, has_range (a + 1) n p)
 
 range_has : (a n p : ℕ) → has p (range_with_len a n) ≡ true → (a ≤ p) × (p < a + n)
 range_has a zero p there = absurd (true≢false (sym there))
-range_has a (suc n) p there = elim (or_cases (eqb a p) (has p (range_with_len (a + 1) n)) there) [
-  | inl here ↦ let same = eqb-true a p here in (omega arith, omega arith)
-  | inr more ↦ let at = range_has (a + 1) n p more in let low = at.0 in let high = at.1 in (omega arith, omega arith)
-]
+range_has a (suc n) p there = grind (arith, nat_tests, range_has (a + 1) n p)
 
 -- ---- lists of stores
 
@@ -59,14 +55,6 @@ release_split allows words xs ys all =
 
 pub release_both : (words xs ys : List ℕ) → stored words (release_stores (xs ++ ys)) ≡ stored (stored words (release_stores xs)) (release_stores ys)
 release_both words xs ys = ap (stored words) (release_append xs ys) ∙ stored-append words (release_stores xs) (release_stores ys)
-
-pub drop_next : (ps : List ℕ) (k : ℕ) → k < length ps → drop k ps ≡ get_or ps k 0 ∷ drop (k + 1) ps
-drop_next ps k low = let next : suc k ≡ k + 1 = omega arith in first ps k low ∙ ap (λ n. get_or ps k 0 ∷ drop n ps) next
-  where
-    first : (qs : List ℕ) (j : ℕ) → j < length qs → drop j qs ≡ get_or qs j 0 ∷ drop (suc j) qs
-    first [] j j-low = absurd (omega arith)
-    first (q ∷ qs) zero j-low = refl
-    first (q ∷ qs) (suc j) j-low = first qs j (omega arith)
 
 pub release_out : (ps words : List ℕ) (p : ℕ) → has p ps ≡ false → get_or (stored words (release_stores ps)) p 0 ≡ get_or words p 0
 release_out [] words p out = refl
@@ -297,19 +285,8 @@ module _ (pages harts : ℕ) (words mid : List ℕ) (t : ℕ) (seats : ℕ → O
     behind = λ place high. past place (omega arith) ∙ clears.behind place high;
   }
 
-pub drop_past : (ps : List ℕ) (k : ℕ) → length ps ≤ k → drop k ps ≡ []
-drop_past [] zero long = refl
-drop_past [] (suc k) long = refl
-drop_past (p ∷ ps) zero long = absurd (omega arith)
-drop_past (p ∷ ps) (suc k) long = drop_past ps k (omega arith)
-
 pub has_at : (ps : List ℕ) (k : ℕ) → k < length ps → has (get_or ps k 0) ps ≡ true
-has_at [] k low = absurd (omega arith)
-has_at (q ∷ ps) zero low = or_left (eqb q q) (has q ps) (eq-eqb q q refl)
-has_at (q ∷ ps) (suc k) low = or_right (eqb q (get_or ps k 0)) (has (get_or ps k 0) ps) (has_at ps k (omega arith))
-
-pub has_first : (q : ℕ) (ps : List ℕ) → has q (q ∷ ps) ≡ true
-has_first q ps = or_left (eqb q q) (has q ps) (eq-eqb q q refl)
+has_at ps k low = list_any_at (λ m. eqb m (get_or ps k 0)) ps k 0 low (eq-eqb (get_or ps k 0) (get_or ps k 0) refl)
 
 pub has_more : (p q : ℕ) (ps : List ℕ) → has p ps ≡ true → has p (q ∷ ps) ≡ true
 has_more p q ps there = or_right (eqb q p) (has p ps) there

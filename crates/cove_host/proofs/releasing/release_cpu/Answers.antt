@@ -1,6 +1,6 @@
 use Rattle.std.proofs.Common.{◌≡◌, [], sym, subst, true}
-use Rattle.cove_host.proofs.TakenPages.{has_first}
 use Rattle.cove_host.specs.Released.{cpu_pages}
+use Rattle.cove_model.proofs.HartLists.{has_first}
 use Rattle.cove_model.specs.Owners.{has}
 use Rattle.cove_host.proofs.releasing.release_cpu.Goals as goal
 

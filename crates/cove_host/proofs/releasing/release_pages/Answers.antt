@@ -1,9 +1,10 @@
 use Rattle.std.proofs.Common.{[], ◌∷◌, ◌++◌, ◌∙◌, sym}
 use Rattle.std.specs.List.{range_with_len}
-use Rattle.cove_host.proofs.TakenPages.{has_first, has_more, long_next, place_next, release_both, release_split}
+use Rattle.cove_host.proofs.TakenPages.{has_more, long_next, place_next, release_both, release_split}
 use Rattle.cove_base.specs.Stores.{fills}
 use Rattle.cove_host.specs.Released.{all_cpu_pages, release_stores}
 use Rattle.cove_model.proofs.Distinct.{has_left, has_right}
+use Rattle.cove_model.proofs.HartLists.{has_first}
 use Rattle.cove_host.proofs.releasing.release_pages.Goals as goal
 
 pub release_gathered-requires-clause-places : goal.release_gathered-requires-clause-places
