@@ -9,8 +9,9 @@ ghost use Rattle.cove_model.specs.Refusals.{Aligned, plain};
 ghost use Rattle.cove_model.specs.States.{State};
 ghost use Rattle.cove_tvm.specs.Stands.{Stands};
 
-use cove_base::{Page, PageRange, Reply, Status, TVM_LIMIT, Words, epoch_word};
-use cove_fence::Epochs;
+use crate::fences::epochs;
+use crate::pages::pages_from;
+use cove_base::{Reply, Status, TVM_LIMIT, Words};
 use cove_owner::all_free;
 use cove_tvm::Ground;
 
@@ -60,12 +61,11 @@ pub(crate) fn free<W: Words>(w: &mut W, g: &Ground, base: u64, n: u64) -> Result
     ensures told { (S : State) → Stands (W.words w.old) g.now S → result ≡ checked (AllFree S base n) }
     ensures unchanged { Unchanged W.words W.clean W.guard w.old w.new }
 {
-    let range = PageRange {
-        first: Page((base / 4096) as u32),
-        count: n as u32,
-    };
-    let floor = Epochs::new(epoch_word(g.pages), g.harts).floor(w);
-    check(!all_free(w, range, floor), Status::InvalidAddress)
+    let floor = epochs(g).floor(w);
+    check(
+        !all_free(w, pages_from(base, n), floor),
+        Status::InvalidAddress,
+    )
 }
 
 /// Answers a check that fails.

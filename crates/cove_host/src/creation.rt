@@ -1,23 +1,18 @@
 //! The creation of TVMs.
 
-ghost use Rattle.std.specs.Prelude.{◌≡◌, ◌+◌, ◌/◌, ◌<◌, ◌≤◌, ◌^◌, ℕ, OnOk, length};
-ghost use Rattle.cove_base.specs.PageWords.{given};
-ghost use Rattle.cove_base.specs.Places.{page_word};
-ghost use Rattle.cove_base.specs.Stores.{AllAllowed, fills, stored};
+ghost use Rattle.std.specs.Prelude.{◌≡◌, ◌<◌, ℕ};
 ghost use Rattle.cove_base.specs.Unchanged.{Unchanged};
 ghost use Rattle.cove_base.specs.declared.calls.HostCall.TheVariants.{Create};
-ghost use Rattle.cove_base.specs.declared.limits.TheConstants.{PAGE_LIMIT, TVM_LIMIT};
 ghost use Rattle.cove_tvm.specs.Called.{Called, IsReady};
 ghost use Rattle.cove_host.specs.Checked.{all_checked};
 ghost use Rattle.cove_model.specs.HostCalls.{rule};
 ghost use Rattle.cove_model.specs.LawfulStores.{AllowsLawful};
 ghost use Rattle.cove_model.specs.States.{State};
-ghost use Rattle.cove_tvm.specs.NewTvms.{MayCreate};
 ghost use Rattle.cove_tvm.specs.Stands.{Stands};
 
 use crate::checks::{aligned, free, inside, room_for_tvm, root_aligned, state_apart};
-use cove_base::{HartId, Page, PageRange, Reply, Role, Status, TvmId, Words};
-use cove_owner::{PageState, set_all};
+use crate::pages::{give, page_of};
+use cove_base::{HartId, Reply, Role, Status, Words};
 use cove_tvm::Ground;
 
 /// Creates a TVM, with the four pages from the byte address `root` on as the root of its tables, and the page at `state`.
@@ -58,29 +53,4 @@ fn creatable<W: Words>(w: &mut W, g: &Ground, root: u64, state: u64) -> Result<(
     state_apart(root, state)?;
     free(w, g, root, 4)?;
     free(w, g, state, 1)
-}
-
-/// The page of a byte address.
-pub(crate) fn page_of(address: u64) -> Page
-    requires { address / 4096 < 2 ^ 32 }
-    ensures { result.0 ≡ address / 4096 }
-{
-    Page((address / 4096) as u32)
-}
-
-/// Gives the pages from a byte address on to a TVM.
-pub(crate) fn give<W: Words>(w: &mut W, base: u64, n: u32, t: TvmId, role: Role)
-    requires places { base / 4096 + n ≤ length (W.words w.old) }
-    requires limit { base / 4096 + n ≤ 2 ^ 16 }
-    requires low { 1 ≤ t.0 }
-    requires high { t.0 ≤ TVM_LIMIT }
-    requires allowed { AllAllowed (W.allows (W.guard w.old)) (W.words w.old) (fills (page_word (base / 4096)) n (given t.0 role)) }
-    ensures words { W.words w.new ≡ stored (W.words w.old) (fills (page_word (base / 4096)) n (given t.0 role)) }
-    ensures guard { W.guard w.new ≡ W.guard w.old }
-{
-    let range = PageRange {
-        first: page_of(base),
-        count: n,
-    };
-    set_all(w, range, PageState::Given { tvm: t, role });
 }

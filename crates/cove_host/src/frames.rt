@@ -4,13 +4,13 @@ ghost use Rattle.std.specs.Prelude.{◌≡◌, ◌+◌, ◌/◌, ◌≤◌, ◌<
 ghost use Rattle.cove_base.specs.PageWords.{given};
 ghost use Rattle.cove_base.specs.Places.{page_word};
 ghost use Rattle.cove_base.specs.Stores.{AllAllowed, fills, stored};
-ghost use Rattle.cove_base.specs.declared.limits.TheConstants.{TVM_LIMIT};
+ghost use Rattle.cove_base.specs.declared.limits.TheConstants.{PAGE_LIMIT, TVM_LIMIT};
 ghost use Rattle.cove_base.specs.declared.numbers.Role.TheVariants.{Data};
 ghost use Rattle.cove_host.specs.Zeros.{AreCopies, AreZeros};
 ghost use Rattle.cove_model.specs.Owners.{zeros};
 ghost use Rattle.cove_tvm.specs.PrivateRuns.{FillsFrames};
 
-use crate::creation::give;
+use crate::pages::give;
 use cove_base::{Page, Role, TvmId, Words};
 use cove_mem::Memory;
 
@@ -39,10 +39,10 @@ pub(crate) fn copy_all(memory: &mut Memory, from: Page, to: Page, n: u32)
 }
 
 /// Gives pages to a TVM as memory of zeros. Their frames are zeros before any of their words says so.
-pub(crate) fn give_zeros<W: Words>(w: &mut W, memory: &Memory, base: u64, n: u32, t: TvmId)
+pub(crate) fn give_zeros<W: Words>(w: &mut W, memory: &Memory, base: u64, n: u64, t: TvmId)
     requires filled { AreZeros memory.now (base / 4096) n }
     requires places { base / 4096 + n ≤ length (W.words w.old) }
-    requires limit { base / 4096 + n ≤ 2 ^ 16 }
+    requires limit { base / 4096 + n ≤ PAGE_LIMIT }
     requires low { 1 ≤ t.0 }
     requires high { t.0 ≤ TVM_LIMIT }
     requires allowed { AllAllowed (W.allows (W.guard w.old)) (W.words w.old) (fills (page_word (base / 4096)) n (given t.0 Data)) }
@@ -58,12 +58,12 @@ pub(crate) fn give_copies<W: Words>(
     memory: &Memory,
     src: u64,
     base: u64,
-    n: u32,
+    n: u64,
     t: TvmId,
 )
     requires filled { AreCopies memory.now (src / 4096) (base / 4096) n }
     requires places { base / 4096 + n ≤ length (W.words w.old) }
-    requires limit { base / 4096 + n ≤ 2 ^ 16 }
+    requires limit { base / 4096 + n ≤ PAGE_LIMIT }
     requires low { 1 ≤ t.0 }
     requires high { t.0 ≤ TVM_LIMIT }
     requires allowed { AllAllowed (W.allows (W.guard w.old)) (W.words w.old) (fills (page_word (base / 4096)) n (given t.0 Data)) }

@@ -20,6 +20,7 @@ mod lives;
 mod mapping;
 mod measured_pages;
 mod owners;
+mod pages;
 mod regions;
 mod releasing;
 mod runs;

@@ -19,8 +19,9 @@ ghost use Rattle.cove_tvm.specs.Stands.{Stands};
 use crate::checks::{aligned, check, free, inside};
 use crate::fences::epochs;
 use crate::frames::zero_all;
+use crate::pages::pages_from;
 use crate::runs::{all_host, counted};
-use cove_base::{HartId, Page, PageRange, Reply, Status, Words};
+use cove_base::{HartId, PageRange, Reply, Status, Words};
 use cove_mem::Memory;
 use cove_owner::{PageState, any_mapped, set_all};
 use cove_tvm::Ground;
@@ -106,18 +107,6 @@ fn none_shared<W: Words>(w: &mut W, g: &Ground, base: u64, n: u64) -> Result<(),
     ensures unchanged { Unchanged W.words W.clean W.guard w.old w.new }
 {
     check(any_mapped(w, pages_from(base, n)), Status::Denied)
-}
-
-// The `n` pages from a byte address on.
-fn pages_from(base: u64, n: u64) -> PageRange
-    requires { base / 4096 + n ≤ PAGE_LIMIT }
-    ensures first { result.first.0 ≡ base / 4096 }
-    ensures count { result.count ≡ n }
-{
-    PageRange {
-        first: Page((base / 4096) as u32),
-        count: n as u32,
-    }
 }
 
 // Gives the pages of a range back to the host. Their frames are zeros before any of their words says so.

@@ -11,7 +11,8 @@ ghost use Rattle.cove_model.specs.States.{State};
 ghost use Rattle.cove_tvm.specs.Stands.{Stands};
 
 use crate::checks::check;
-use cove_base::{Page, PageRange, RANGE_LIMIT, Reply, Status, Words};
+use crate::pages::pages_from;
+use cove_base::{RANGE_LIMIT, Reply, Status, Words};
 use cove_tvm::Ground;
 
 /// The number is one of pages that a call may name.
@@ -29,9 +30,8 @@ pub(crate) fn all_host<W: Words>(w: &mut W, g: &Ground, base: u64, n: u64) -> Re
     ensures told { (S : State) → Stands (W.words w.old) g.now S → result ≡ checked (AllHost S base n) }
     ensures unchanged { Unchanged W.words W.clean W.guard w.old w.new }
 {
-    let range = PageRange {
-        first: Page((base / 4096) as u32),
-        count: n as u32,
-    };
-    check(!cove_owner::all_host(w, range), Status::InvalidAddress)
+    check(
+        !cove_owner::all_host(w, pages_from(base, n)),
+        Status::InvalidAddress,
+    )
 }

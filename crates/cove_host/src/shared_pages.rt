@@ -13,9 +13,9 @@ ghost use Rattle.cove_tvm.specs.Stands.{Stands};
 
 use crate::checks::{aligned, inside};
 use crate::counts::raise_counts;
-use crate::creation::page_of;
 use crate::lives::{is_runnable, live};
 use crate::mapping::{map_pages, may_map_shared};
+use crate::pages::page_of;
 use crate::runs::{all_host, counted};
 use cove_base::{Gpn, HartId, RANGE_LIMIT, Reply, Status, Words};
 use cove_tvm::Ground;

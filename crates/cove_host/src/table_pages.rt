@@ -18,8 +18,8 @@ ghost use Rattle.cove_tvm.specs.declared.ground.Ground.{Ground};
 ghost use Rattle.cove_tvm.specs.declared.machines.Tvm.{Tvm};
 
 use crate::checks::{aligned, free, inside};
-use crate::creation::{give, page_of};
 use crate::lives::live;
+use crate::pages::{give, page_of};
 use crate::runs::counted;
 use cove_base::{HartId, Page, Reply, Role, Status, TvmId, Words};
 use cove_stage2::Pool;
@@ -43,7 +43,7 @@ pub fn add_page_table_pages<W: Words>(
     match addable(w, g, t, base, n) {
         Err(reply) => reply,
         Ok(()) => {
-            give(w, base, n as u32, TvmId(t as u32), Role::Table);
+            give(w, base, n, TvmId(t as u32), Role::Table);
             add(g, t, base, n as u32);
             Reply {
                 status: Status::Success,

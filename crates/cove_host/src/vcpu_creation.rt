@@ -17,8 +17,8 @@ ghost use Rattle.cove_tvm.specs.declared.ground.Ground.{Ground};
 ghost use Rattle.cove_tvm.specs.declared.machines.Tvm.{Tvm};
 
 use crate::checks::{aligned, free, inside};
-use crate::creation::{give, page_of};
 use crate::lives::{cpu_number, is_building, live, no_cpu_yet};
+use crate::pages::{give, page_of};
 use cove_base::{HartId, Page, Regs, Reply, Role, Status, TvmId, VCPU_LIMIT, Words};
 use cove_imsic::FileState;
 use cove_tvm::{Ground, RunState, Tvm, VcpuSlot};

@@ -8,12 +8,12 @@ use Rattle.cove_host.proofs.checks.free.Goals as goal
 
 pub all_free-requires-clause-page_words : goal.all_free-requires-clause-page_words
 all_free-requires-clause-page_words g c =
-    rw c.floor-floor.ensures.unchanged.words (page_words _ _ c.requires.ready (c.args.base / 4096) c.args.n c.requires.inside)
+    rw (c.pages_from.ensures.first, c.pages_from.ensures.count, c.floor-floor.ensures.unchanged.words) (page_words _ _ c.requires.ready (c.args.base / 4096) c.args.n c.requires.inside)
 
 pub returns-clause-told : goal.returns-clause-told
 returns-clause-told g c = λ S stands.
     c.check.ensures
     ∙ ap (λ b. checked (plain (not b) InvalidAddress))
     (sym (free_told _ _ S (c.args.base / 4096) c.args.n c.floor-floor.result c.all_free.result stands c.requires.inside
-    (floor_is _ _ _ c.new.result c.floor-floor.result (c.new.ensures.first ∙ c.epoch_word.ensures) c.new.ensures.harts c.floor-floor.ensures.least c.floor-floor.ensures.answered)
-    (rw c.floor-floor.ensures.unchanged.words at c.all_free.ensures.all)))
+    (floor_is _ _ _ c.epochs.result c.floor-floor.result c.epochs.ensures.first c.epochs.ensures.harts c.floor-floor.ensures.least c.floor-floor.ensures.answered)
+    (rw (c.pages_from.ensures.first, c.pages_from.ensures.count, c.floor-floor.ensures.unchanged.words) at c.all_free.ensures.all)))
