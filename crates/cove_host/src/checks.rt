@@ -15,6 +15,12 @@ use cove_base::{Reply, Status, TVM_LIMIT, Words};
 use cove_owner::all_free;
 use cove_tvm::Ground;
 
+/// What a call answers that was done and has no value to tell.
+pub(crate) const DONE: Reply = Reply {
+    status: Status::Success,
+    value: 0,
+};
+
 /// Another TVM may be created.
 pub(crate) fn room_for_tvm(g: &Ground) -> Result<(), Reply>
     ensures told { (words : List ℕ) (S : State) → Stands words g.now S → result ≡ checked (RoomForTvm S) }

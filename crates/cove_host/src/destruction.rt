@@ -17,6 +17,7 @@ ghost use Rattle.cove_tvm.specs.TvmTables.{live_at};
 ghost use Rattle.cove_tvm.specs.declared.ground.Ground.{Ground};
 ghost use Rattle.cove_tvm.specs.declared.machines.Tvm.{Tvm};
 
+use crate::checks::DONE;
 use crate::clearing::clear_tables;
 use crate::lives::live;
 use crate::releasing::release_pages;
@@ -36,10 +37,7 @@ pub fn destroy_tvm<W: Words>(w: &mut W, g: &mut Ground, h: HartId, t: u64) -> Re
         Err(reply) => reply,
         Ok(()) => {
             end(w, g, t);
-            Reply {
-                status: Status::Success,
-                value: 0,
-            }
+            DONE
         }
     }
 }

@@ -7,6 +7,7 @@ ghost use Rattle.cove_base.specs.declared.limits.TheConstants.{HART_LIMIT, PAGE_
 ghost use Rattle.cove_tvm.specs.Called.{Called, IsReady};
 ghost use Rattle.cove_model.specs.LawfulStores.{AllowsLawful};
 
+use crate::checks::DONE;
 use cove_base::{HartId, Reply, Status, Words, epoch_word};
 use cove_fence::Epochs;
 use cove_tvm::Ground;
@@ -24,10 +25,7 @@ pub fn global_fence<W: Words>(w: &mut W, g: &mut Ground, h: HartId) -> Reply
             status: Status::AlreadyStarted,
             value: u64::from(lowest.0),
         },
-        Ok(_) => Reply {
-            status: Status::Success,
-            value: 0,
-        },
+        Ok(_) => DONE,
     }
 }
 
@@ -40,10 +38,7 @@ pub fn local_fence<W: Words>(w: &mut W, g: &mut Ground, h: HartId) -> Reply
     ensures guard { W.guard w.new ≡ W.guard w.old }
 {
     epochs(g).answer(w, h);
-    Reply {
-        status: Status::Success,
-        value: 0,
-    }
+    DONE
 }
 
 /// Where the epoch and the answered numbers of the board stand.

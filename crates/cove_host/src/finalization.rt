@@ -16,8 +16,9 @@ ghost use Rattle.cove_tvm.specs.declared.ground.Ground.{Ground};
 ghost use Rattle.cove_tvm.specs.declared.machines.Tvm.{Tvm};
 ghost use Rattle.cove_base.specs.Unchanged.{Unchanged};
 
+use crate::checks::DONE;
 use crate::lives::{has_some_cpu, is_building, live, place_aligned};
-use cove_base::{HartId, Regs, Reply, Status, Words};
+use cove_base::{HartId, Regs, Reply, Words};
 use cove_tvm::{Ground, Life, Tvm, VcpuSlot};
 
 /// Finalizes a TVM: measures what it begins with, starts its vCPUs at the place `pc` with the argument `arg`, and lets them
@@ -37,10 +38,7 @@ pub fn finalize_tvm<W: Words>(
         Err(reply) => reply,
         Ok(()) => {
             finish(g, t, pc, arg);
-            Reply {
-                status: Status::Success,
-                value: 0,
-            }
+            DONE
         }
     }
 }

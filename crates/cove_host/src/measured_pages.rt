@@ -15,13 +15,13 @@ ghost use Rattle.cove_tvm.specs.Stands.{Stands};
 ghost use Rattle.cove_tvm.specs.TvmTables.{live_at};
 ghost use Rattle.cove_tvm.specs.declared.machines.Tvm.{Tvm};
 
-use crate::checks::{aligned, free, inside};
+use crate::checks::{DONE, aligned, free, inside};
 use crate::frames::{copy_all, give_copies};
 use crate::lives::{is_building, live};
 use crate::mapping::{map_into, may_map_private};
 use crate::pages::page_of;
 use crate::runs::{all_host, counted};
-use cove_base::{Gpn, HartId, Page, RANGE_LIMIT, Reply, Status, TvmId, Words};
+use cove_base::{Gpn, HartId, Page, RANGE_LIMIT, Reply, TvmId, Words};
 use cove_measure::Registers;
 use cove_mem::Memory;
 use cove_tvm::{Ground, Tvm};
@@ -51,10 +51,7 @@ pub fn add_measured_pages<W: Words>(
             copy_all(&mut g.memory, page_of(src), page_of(dst), count);
             give_copies(w, &g.memory, src, dst, n, TvmId(t as u32));
             map_measured(w, g, t, Gpn(gpa / 4096), page_of(dst), count);
-            Reply {
-                status: Status::Success,
-                value: 0,
-            }
+            DONE
         }
     }
 }

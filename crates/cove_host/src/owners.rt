@@ -16,7 +16,7 @@ ghost use Rattle.cove_model.specs.LawfulStores.{AllowsLawful};
 ghost use Rattle.cove_model.specs.States.{State};
 ghost use Rattle.cove_tvm.specs.Stands.{Stands};
 
-use crate::checks::{aligned, check, free, inside};
+use crate::checks::{DONE, aligned, check, free, inside};
 use crate::fences::epochs;
 use crate::frames::zero_all;
 use crate::pages::pages_from;
@@ -39,10 +39,7 @@ pub fn convert_pages<W: Words>(w: &mut W, g: &mut Ground, h: HartId, base: u64, 
         Ok(()) => {
             let since = epochs(g).current(w);
             set_all(w, pages_from(base, n), PageState::Converting { since });
-            Reply {
-                status: Status::Success,
-                value: 0,
-            }
+            DONE
         }
     }
 }
@@ -76,10 +73,7 @@ pub fn reclaim_pages<W: Words>(w: &mut W, g: &mut Ground, h: HartId, base: u64, 
             let range = pages_from(base, n);
             zero_all(&mut g.memory, range.first, range.count);
             give_back(w, &g.memory, range);
-            Reply {
-                status: Status::Success,
-                value: 0,
-            }
+            DONE
         }
     }
 }

@@ -15,7 +15,7 @@ ghost use Rattle.cove_tvm.specs.TvmTables.{live_at};
 ghost use Rattle.cove_tvm.specs.declared.ground.Ground.{Ground};
 ghost use Rattle.cove_tvm.specs.declared.machines.Tvm.{Tvm};
 
-use crate::checks::{aligned, check};
+use crate::checks::{DONE, aligned, check};
 use crate::lives::{is_building, live};
 use cove_base::{Gpn, HartId, Reply, Status, Words};
 use cove_tvm::{Ground, Tvm};
@@ -36,10 +36,7 @@ pub fn add_memory_region<W: Words>(
         Err(reply) => reply,
         Ok(()) => {
             add(g, t, Gpn(gpa / 4096), len / 4096);
-            Reply {
-                status: Status::Success,
-                value: 0,
-            }
+            DONE
         }
     }
 }

@@ -11,13 +11,13 @@ ghost use Rattle.cove_model.specs.LawfulStores.{AllowsLawful};
 ghost use Rattle.cove_model.specs.States.{State};
 ghost use Rattle.cove_tvm.specs.Stands.{Stands};
 
-use crate::checks::{aligned, inside};
+use crate::checks::{DONE, aligned, inside};
 use crate::counts::raise_counts;
 use crate::lives::{is_runnable, live};
 use crate::mapping::{map_pages, may_map_shared};
 use crate::pages::page_of;
 use crate::runs::{all_host, counted};
-use cove_base::{Gpn, HartId, RANGE_LIMIT, Reply, Status, Words};
+use cove_base::{Gpn, HartId, RANGE_LIMIT, Reply, Words};
 use cove_tvm::Ground;
 
 /// Maps guest pages of a TVM, from `gpa` on, to `n` pages of the host's from the byte address `base` on.
@@ -42,10 +42,7 @@ pub fn add_shared_pages<W: Words>(
             let count = n as u32;
             raise_counts(w, page_of(base), count);
             map_pages(w, g, t, Gpn(gpa / 4096), page_of(base), count, true);
-            Reply {
-                status: Status::Success,
-                value: 0,
-            }
+            DONE
         }
     }
 }

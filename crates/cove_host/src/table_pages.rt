@@ -17,11 +17,11 @@ ghost use Rattle.cove_tvm.specs.TvmTables.{live_at};
 ghost use Rattle.cove_tvm.specs.declared.ground.Ground.{Ground};
 ghost use Rattle.cove_tvm.specs.declared.machines.Tvm.{Tvm};
 
-use crate::checks::{aligned, free, inside};
+use crate::checks::{DONE, aligned, free, inside};
 use crate::lives::live;
 use crate::pages::{give, page_of};
 use crate::runs::counted;
-use cove_base::{HartId, Page, Reply, Role, Status, TvmId, Words};
+use cove_base::{HartId, Page, Reply, Role, TvmId, Words};
 use cove_stage2::Pool;
 use cove_tvm::{Ground, Tvm};
 
@@ -45,10 +45,7 @@ pub fn add_page_table_pages<W: Words>(
         Ok(()) => {
             give(w, base, n, TvmId(t as u32), Role::Table);
             add(g, t, base, n as u32);
-            Reply {
-                status: Status::Success,
-                value: 0,
-            }
+            DONE
         }
     }
 }

@@ -16,10 +16,10 @@ ghost use Rattle.cove_tvm.specs.TvmTables.{live_at};
 ghost use Rattle.cove_tvm.specs.declared.ground.Ground.{Ground};
 ghost use Rattle.cove_tvm.specs.declared.machines.Tvm.{Tvm};
 
-use crate::checks::{aligned, free, inside};
+use crate::checks::{DONE, aligned, free, inside};
 use crate::lives::{cpu_number, is_building, live, no_cpu_yet};
 use crate::pages::{give, page_of};
-use cove_base::{HartId, Page, Regs, Reply, Role, Status, TvmId, VCPU_LIMIT, Words};
+use cove_base::{HartId, Page, Regs, Reply, Role, TvmId, VCPU_LIMIT, Words};
 use cove_imsic::FileState;
 use cove_tvm::{Ground, RunState, Tvm, VcpuSlot};
 
@@ -43,10 +43,7 @@ pub fn create_vcpu<W: Words>(
         Ok(()) => {
             give(w, state, 1, TvmId(t as u32), Role::Vcpu);
             add(g, t, v, page_of(state));
-            Reply {
-                status: Status::Success,
-                value: 0,
-            }
+            DONE
         }
     }
 }

@@ -11,13 +11,13 @@ ghost use Rattle.cove_model.specs.LawfulStores.{AllowsLawful};
 ghost use Rattle.cove_model.specs.States.{State};
 ghost use Rattle.cove_tvm.specs.Stands.{Stands};
 
-use crate::checks::{aligned, free, inside};
+use crate::checks::{DONE, aligned, free, inside};
 use crate::frames::{give_zeros, zero_all};
 use crate::lives::{is_runnable, live};
 use crate::mapping::{map_pages, may_map_private};
 use crate::pages::page_of;
 use crate::runs::counted;
-use cove_base::{Gpn, HartId, RANGE_LIMIT, Reply, Status, TvmId, Words};
+use cove_base::{Gpn, HartId, RANGE_LIMIT, Reply, TvmId, Words};
 use cove_tvm::Ground;
 
 /// Gives `n` free pages from the byte address `base` on to a TVM, filled with zeros, and maps its guest pages from `gpa` on to
@@ -44,10 +44,7 @@ pub fn add_zero_pages<W: Words>(
             zero_all(&mut g.memory, page_of(base), count);
             give_zeros(w, &g.memory, base, n, TvmId(t as u32));
             map_pages(w, g, t, Gpn(gpa / 4096), page_of(base), count, false);
-            Reply {
-                status: Status::Success,
-                value: 0,
-            }
+            DONE
         }
     }
 }
