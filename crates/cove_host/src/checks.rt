@@ -1,4 +1,6 @@
-//! The checks of calls, each once for every call that has it.
+//! The checks that calls share. Each is one function, whose `Err` is what the call answers where the check fails.
+//!
+//! Those of a TVM's life stand in `lives`, those of runs of pages in `runs`, and those of guest pages in `guest_pages`.
 
 ghost use Rattle.std.specs.Prelude.{◌≡◌, ◌+◌, ◌/◌, ◌≤◌, ℕ, List, OnOk};
 ghost use Rattle.cove_base.specs.Unchanged.{Unchanged};
@@ -15,7 +17,7 @@ use cove_base::{Reply, Status, TVM_LIMIT, Words};
 use cove_owner::all_free;
 use cove_tvm::Ground;
 
-/// What a call answers that was done and has no value to tell.
+/// The answer of a call that was done and has no value to tell.
 pub(crate) const DONE: Reply = Reply {
     status: Status::Success,
     value: 0,
@@ -35,7 +37,7 @@ pub(crate) fn root_aligned(root: u64) -> Result<(), Reply>
     check(root % 16384 != 0, Status::InvalidAddress)
 }
 
-/// An address is a multiple of the page size.
+/// The address is a multiple of the page size.
 pub(crate) fn aligned(address: u64) -> Result<(), Reply>
     ensures { result ≡ checked (Aligned address) }
 {
@@ -74,7 +76,7 @@ pub(crate) fn free<W: Words>(w: &mut W, g: &Ground, base: u64, n: u64) -> Result
     )
 }
 
-/// Answers a check that fails.
+/// A check, which is answered by its status where it fails.
 pub(crate) fn check(fails: bool, status: Status) -> Result<(), Reply>
     ensures { result ≡ checked (plain fails status) }
 {

@@ -1,4 +1,4 @@
-//! The one call by which each call of the host is answered.
+//! The one function that answers every call of the host.
 
 use crate::creation::create_tvm;
 use crate::destruction::destroy_tvm;
@@ -15,7 +15,7 @@ use crate::zero_pages::add_zero_pages;
 use cove_base::{HartId, HostCall, Reply, Status, Words};
 use cove_tvm::{Ground, HostSide};
 
-/// The calls of this crate.
+/// The host's side of the monitor: it answers a call by its function, and one that is not built by `NotSupported`.
 #[derive(Clone, Copy)]
 pub struct Covh;
 

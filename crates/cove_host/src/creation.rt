@@ -15,8 +15,8 @@ use crate::pages::{give, page_of};
 use cove_base::{HartId, Reply, Role, Status, Words};
 use cove_tvm::Ground;
 
-/// Creates a TVM, with the four pages from the byte address `root` on as the root of its tables, and the page at `state`.
-/// Answers its number.
+/// Creates a TVM, with the four pages from the byte address `root` on as the root of its tables, and the page at the byte
+/// address `state` as its state page. Answers its number.
 pub fn create_tvm<W: Words>(w: &mut W, g: &mut Ground, h: HartId, root: u64, state: u64) -> Reply
     requires ready { IsReady (W.words w.old) g.old }
     requires on_board { h.0 < g.old.harts }
@@ -38,7 +38,7 @@ pub fn create_tvm<W: Words>(w: &mut W, g: &mut Ground, h: HartId, root: u64, sta
     }
 }
 
-// Whether a TVM may be created of these pages, or the answer.
+// The checks of the call, in the order of its rule.
 fn creatable<W: Words>(w: &mut W, g: &Ground, root: u64, state: u64) -> Result<(), Reply>
     requires ready { IsReady (W.words w.old) g.now }
     ensures told { (hart : ℕ) (S : State) → Stands (W.words w.old) g.now S

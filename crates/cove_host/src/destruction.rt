@@ -1,6 +1,6 @@
-//! The end of TVMs.
+//! The destruction of TVMs.
 
-ghost use Rattle.std.specs.Prelude.{◌≡◌, ◌-◌, ◌<◌, ◌≤◌, ℕ, OnOk, Some, false};
+ghost use Rattle.std.specs.Prelude.{◌≡◌, ◌-◌, ◌<◌, ℕ, OnOk, Some, false};
 ghost use Rattle.cove_base.specs.Unchanged.{Unchanged};
 ghost use Rattle.cove_base.specs.declared.calls.HostCall.TheVariants.{Destroy};
 ghost use Rattle.cove_tvm.specs.Called.{Called, IsReady};
@@ -24,8 +24,8 @@ use crate::releasing::release_pages;
 use cove_base::{HartId, Reply, Status, Words, hart_word};
 use cove_tvm::{Ground, Life, Tvm};
 
-/// Destroys a TVM that no hart is inside: its tables are cleared, each count of a page of the host's follows, and then its
-/// pages are taken back.
+/// Destroys a TVM that no hart is inside: clears its tables, lowers the count of each page of the host's that it mapped, and
+/// then takes its own pages back.
 pub fn destroy_tvm<W: Words>(w: &mut W, g: &mut Ground, h: HartId, t: u64) -> Reply
     requires ready { IsReady (W.words w.old) g.old }
     requires on_board { h.0 < g.old.harts }
@@ -42,7 +42,7 @@ pub fn destroy_tvm<W: Words>(w: &mut W, g: &mut Ground, h: HartId, t: u64) -> Re
     }
 }
 
-// Whether a TVM may be destroyed, or the answer.
+// The checks of the call, in the order of its rule.
 fn destroyable<W: Words>(w: &mut W, g: &Ground, t: u64) -> Result<(), Reply>
     requires ready { IsReady (W.words w.old) g.now }
     ensures told { (hart : ℕ) (S : State) → Stands (W.words w.old) g.now S
@@ -54,7 +54,7 @@ fn destroyable<W: Words>(w: &mut W, g: &Ground, t: u64) -> Result<(), Reply>
     nobody_inside(w, g, t)
 }
 
-// Ends the live TVM with a number.
+// Ends the live TVM `t`.
 fn end<W: Words>(w: &mut W, g: &mut Ground, t: u64)
     requires ending { (tvm : Tvm) → live_at g.old.tvms t ≡ Some tvm → MayEnd (W.allows (W.guard w.old)) (W.words w.old) tvm }
     ensures ended { (old : Tvm) → live_at g.old.tvms t ≡ Some old → (gone : Tvm) × HasEnded (W.words w.old) (W.words w.new) old gone
@@ -78,7 +78,7 @@ fn end_tvm<W: Words>(w: &mut W, tvm: &mut Tvm)
     tvm.life = Life::Gone;
 }
 
-// No hart is inside the TVM.
+// No hart is inside the TVM; the value of a refusal is the least one that is.
 fn nobody_inside<W: Words>(w: &mut W, g: &Ground, t: u64) -> Result<(), Reply>
     requires ready { IsReady (W.words w.old) g.now }
     ensures told { (S : State) → Stands (W.words w.old) g.now S → result ≡ checked (NobodyInside S t) }
@@ -109,7 +109,7 @@ fn first_inside<W: Words>(w: &mut W, g: &Ground, t: u64) -> Option<HartId>
     None
 }
 
-// Whether a hart's word says that it is inside a TVM.
+// Whether a hart's word says that it is inside a TVM: its upper half is then the TVM's number.
 fn is_word_of(word: u64, t: u64) -> bool
     ensures { result ≡ is_word_of word t }
 {

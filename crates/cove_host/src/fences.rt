@@ -12,7 +12,7 @@ use cove_base::{HartId, Reply, Status, Words, epoch_word};
 use cove_fence::Epochs;
 use cove_tvm::Ground;
 
-/// Begins a global fence, which its caller answers.
+/// Begins a global fence, which the calling hart answers at once.
 pub fn global_fence<W: Words>(w: &mut W, g: &mut Ground, h: HartId) -> Reply
     requires ready { IsReady (W.words w.old) g.old }
     requires on_board { h.0 < g.old.harts }
@@ -29,7 +29,7 @@ pub fn global_fence<W: Words>(w: &mut W, g: &mut Ground, h: HartId) -> Reply
     }
 }
 
-/// Answers the last global fence for the caller.
+/// Answers the last global fence for the calling hart.
 pub fn local_fence<W: Words>(w: &mut W, g: &mut Ground, h: HartId) -> Reply
     requires ready { IsReady (W.words w.old) g.old }
     requires on_board { h.0 < g.old.harts }
@@ -41,7 +41,7 @@ pub fn local_fence<W: Words>(w: &mut W, g: &mut Ground, h: HartId) -> Reply
     DONE
 }
 
-/// Where the epoch and the answered numbers of the board stand.
+/// The words of the board's epoch and of the epoch that each hart answered last.
 pub(crate) fn epochs(g: &Ground) -> Epochs
     requires pages { g.now.pages ≤ PAGE_LIMIT }
     requires some { 1 ≤ g.now.harts }

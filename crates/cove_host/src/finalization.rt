@@ -1,6 +1,6 @@
-//! The end of a TVM's building.
+//! The finalization of TVMs.
 
-ghost use Rattle.std.specs.Prelude.{◌≡◌, ◌-◌, ◌++◌, ℕ, List, [], ◌∷◌, Some, replicate};
+ghost use Rattle.std.specs.Prelude.{◌≡◌, ◌-◌, ◌++◌, ℕ, List, ◌∷◌, Some, replicate};
 ghost use Rattle.cove_base.specs.Registers.{registers};
 ghost use Rattle.cove_base.specs.declared.calls.HostCall.TheVariants.{Finalize};
 ghost use Rattle.cove_tvm.specs.Called.{Called};
@@ -21,8 +21,8 @@ use crate::lives::{has_some_cpu, is_building, live, place_aligned};
 use cove_base::{HartId, Regs, Reply, Words};
 use cove_tvm::{Ground, Life, Tvm, VcpuSlot};
 
-/// Finalizes a TVM: measures what it begins with, starts its vCPUs at the place `pc` with the argument `arg`, and lets them
-/// run.
+/// Finalizes a TVM: each of its vCPUs begins at the place `pc` with the argument `arg`, both are measured, and from then on it
+/// may run.
 pub fn finalize_tvm<W: Words>(
     w: &mut W,
     g: &mut Ground,
@@ -43,7 +43,7 @@ pub fn finalize_tvm<W: Words>(
     }
 }
 
-// Whether a TVM may be finalized, or the answer.
+// The checks of the call, in the order of its rule.
 fn finalizable(g: &Ground, t: u64, pc: u64) -> Result<(), Reply>
     ensures told { (words : List ℕ) (hart arg : ℕ) (S : State) → Stands words g.now S
         → result ≡ all_checked (rule S hart (Finalize t pc arg)).checks }
@@ -54,7 +54,7 @@ fn finalizable(g: &Ground, t: u64, pc: u64) -> Result<(), Reply>
     place_aligned(pc)
 }
 
-// Finalizes the live TVM with a number.
+// Finalizes the live TVM `t`.
 fn finish(g: &mut Ground, t: u64, pc: u64, arg: u64)
     ensures { (old : Tvm) → live_at g.old.tvms t ≡ Some old → (new : Tvm) × IsFinalized pc arg old new
         × (g.new ≡ record g.old { tvms = with_tvm g.old.tvms (t - 1) new }) }
@@ -76,7 +76,7 @@ fn finish_tvm(tvm: &mut Tvm, pc: u64, arg: u64)
     tvm.life = Life::Runnable;
 }
 
-// Starts a vCPU, if it was created.
+// Gives a vCPU the registers that it begins with, if it was created.
 fn start(slot: &mut Option<VcpuSlot>, v: u64, pc: u64, arg: u64)
     ensures { AreStarted pc arg v slot.old slot.new }
 {

@@ -1,6 +1,8 @@
-//! Frames of pages that a TVM is given as memory.
+//! Frames that are filled before their pages are given away.
+//!
+//! No store shows this order, so the functions that give have it as their condition, and take the memory for it alone.
 
-ghost use Rattle.std.specs.Prelude.{◌≡◌, ◌+◌, ◌/◌, ◌≤◌, ◌<◌, ◌⊎◌, ◌^◌, ℕ, [], length, slice_index_or};
+ghost use Rattle.std.specs.Prelude.{◌≡◌, ◌+◌, ◌/◌, ◌≤◌, ◌<◌, ◌⊎◌, ◌^◌, [], length, slice_index_or};
 ghost use Rattle.cove_base.specs.PageWords.{given};
 ghost use Rattle.cove_base.specs.Places.{page_word};
 ghost use Rattle.cove_base.specs.Stores.{AllAllowed, fills, stored};
@@ -14,7 +16,7 @@ use crate::pages::give;
 use cove_base::{Page, Role, TvmId, Words};
 use cove_mem::Memory;
 
-/// Fills the pages from one on with zeros.
+/// Fills the `n` pages from `first` on with zeros.
 pub(crate) fn zero_all(memory: &mut Memory, first: Page, n: u32)
     requires inside { first.0 + n ≤ length memory.old }
     requires limit { first.0 + n < 2 ^ 32 }
@@ -25,7 +27,7 @@ pub(crate) fn zero_all(memory: &mut Memory, first: Page, n: u32)
     }
 }
 
-/// Copies the words of the pages from one on to the pages from another on, of which none is one of the first.
+/// Copies the `n` pages from `from` on to those from `to` on; the two runs have no page in common.
 pub(crate) fn copy_all(memory: &mut Memory, from: Page, to: Page, n: u32)
     requires from { from.0 + n ≤ length memory.old }
     requires to { to.0 + n ≤ length memory.old }
@@ -38,7 +40,7 @@ pub(crate) fn copy_all(memory: &mut Memory, from: Page, to: Page, n: u32)
     }
 }
 
-/// Gives pages to a TVM as memory of zeros. Their frames are zeros before any of their words says so.
+/// Gives the `n` pages from the byte address `base` on to a TVM as memory, once they are zeros.
 pub(crate) fn give_zeros<W: Words>(w: &mut W, memory: &Memory, base: u64, n: u64, t: TvmId)
     requires filled { AreZeros memory.now (base / 4096) n }
     requires places { base / 4096 + n ≤ length (W.words w.old) }
@@ -52,7 +54,7 @@ pub(crate) fn give_zeros<W: Words>(w: &mut W, memory: &Memory, base: u64, n: u64
     give(w, base, n, t, Role::Data);
 }
 
-/// Gives pages to a TVM as copies of those from the byte address `src` on, before any of their words says so.
+/// Gives the `n` pages from the byte address `base` on to a TVM as memory, once they are copies of those from `src` on.
 pub(crate) fn give_copies<W: Words>(
     w: &mut W,
     memory: &Memory,

@@ -1,5 +1,6 @@
 #![tactic(auto)]
-//! The host's calls on owners and on TVMs, over shared words and ground: each a public function whose body reads as its row.
+//! The host's calls on owners and on TVMs, over shared words and ground. Each is a public function that reads as its rule: the
+//! checks in their order, then the stores. [`Covh`] answers every call by these functions.
 //!
 //! Whatever state words and ground stand for, a call is answered as the definition's rule says in that state, its first check
 //! that fails first, and they stand for the state after it; its stores are lawful, and a refused call changes nothing: the

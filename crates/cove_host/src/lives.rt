@@ -1,4 +1,4 @@
-//! The checks of a TVM's life and of its vCPUs, each once for every call that has it.
+//! The checks of a TVM's life and of its vCPUs that calls share.
 
 ghost use Rattle.std.specs.Prelude.{◌≡◌, ◌<◌, ℕ, List, OnOk, IsSome};
 ghost use Rattle.cove_base.specs.declared.limits.TheConstants.{VCPU_LIMIT};
@@ -57,7 +57,7 @@ pub(crate) fn no_cpu_yet(g: &Ground, t: u64, v: u64) -> Result<(), Reply>
     check(is_cpu(g, t, v), Status::AlreadyAvailable)
 }
 
-/// The place is that of an instruction.
+/// The place is a multiple of 4, as that of an instruction is.
 pub(crate) fn place_aligned(pc: u64) -> Result<(), Reply>
     ensures { result ≡ checked (PlaceAligned pc) }
 {

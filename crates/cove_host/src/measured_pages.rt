@@ -1,4 +1,4 @@
-//! Measured pages for a TVM that is built.
+//! Measured pages for a TVM that is being built.
 
 ghost use Rattle.std.specs.Prelude.{◌≡◌, ◌+◌, ◌/◌, ◌^◌, ◌<◌, ◌≤◌, ℕ, OnOk, Some, false, length};
 ghost use Rattle.cove_base.specs.Unchanged.{Unchanged};
@@ -56,7 +56,7 @@ pub fn add_measured_pages<W: Words>(
     }
 }
 
-// Whether measured pages may be added, or the answer.
+// The checks of the call, in the order of its rule.
 fn measurable<W: Words>(
     w: &mut W,
     g: &Ground,
@@ -88,7 +88,7 @@ fn measurable<W: Words>(
     may_map_private(w, g, t, gpa, n)
 }
 
-// Measures pages from one on and maps guest pages of the live TVM with a number to them.
+// Measures `n` pages from `page` on, and maps the guest pages of the live TVM `t` from `first` on to them.
 fn map_measured<W: Words>(w: &mut W, g: &mut Ground, t: u64, first: Gpn, page: Page, n: u32)
     requires may { (tvm : Tvm) → live_at g.old.tvms t ≡ Some tvm
         → MayMapBy (W.allows (W.guard w.old)) tvm.tables.pages tvm.tables.root.0 first.0 page.0 n false (W.words w.old) tvm.pool.pages }
@@ -103,7 +103,7 @@ fn map_measured<W: Words>(w: &mut W, g: &mut Ground, t: u64, first: Gpn, page: P
     }
 }
 
-// Measures pages and maps guest pages of a TVM to them.
+// The same for the TVM itself.
 fn measure_into<W: Words>(w: &mut W, tvm: &mut Tvm, memory: &Memory, first: Gpn, page: Page, n: u32)
     requires may { MayMapBy (W.allows (W.guard w.old)) tvm.old.tables.pages tvm.old.tables.root.0 first.0 page.0 n false (W.words w.old) tvm.old.pool.pages }
     requires inside { page.0 + n ≤ length memory.now }
@@ -116,7 +116,7 @@ fn measure_into<W: Words>(w: &mut W, tvm: &mut Tvm, memory: &Memory, first: Gpn,
     map_into(w, tvm, first, page, n, false);
 }
 
-// Measures pages, one after another, each at its guest page.
+// Measures `n` pages from `page` on, in their order, each at the address of its guest page.
 fn measure_all(registers: &mut Registers, memory: &Memory, first: Gpn, page: Page, n: u32)
     requires inside { page.0 + n ≤ length memory.now }
     requires limit { length memory.now < 2 ^ 32 }

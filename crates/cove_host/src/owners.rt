@@ -1,6 +1,6 @@
-//! The host's calls on owners of pages.
+//! The host's calls on the owners of pages.
 
-ghost use Rattle.std.specs.Prelude.{◌≡◌, ◌+◌, ◌/◌, ◌<◌, ◌≤◌, ◌^◌, ℕ, OnOk, false, length};
+ghost use Rattle.std.specs.Prelude.{◌≡◌, ◌+◌, ◌/◌, ◌<◌, ◌≤◌, ℕ, OnOk, false, length};
 ghost use Rattle.cove_base.specs.PageWords.{host};
 ghost use Rattle.cove_base.specs.Places.{page_word};
 ghost use Rattle.cove_base.specs.Stores.{AllAllowed, fills, stored};
@@ -44,7 +44,7 @@ pub fn convert_pages<W: Words>(w: &mut W, g: &mut Ground, h: HartId, base: u64, 
     }
 }
 
-// Whether pages may go into conversion, or the answer.
+// The checks of the call, in the order of its rule.
 fn convertible<W: Words>(w: &mut W, g: &Ground, base: u64, n: u64) -> Result<(), Reply>
     requires ready { IsReady (W.words w.old) g.now }
     ensures told { (hart : ℕ) (S : State) → Stands (W.words w.old) g.now S
@@ -78,7 +78,7 @@ pub fn reclaim_pages<W: Words>(w: &mut W, g: &mut Ground, h: HartId, base: u64, 
     }
 }
 
-// Whether pages may go back to the host, or the answer.
+// The checks of the call, in the order of its rule.
 fn reclaimable<W: Words>(w: &mut W, g: &Ground, base: u64, n: u64) -> Result<(), Reply>
     requires ready { IsReady (W.words w.old) g.now }
     ensures told { (hart : ℕ) (S : State) → Stands (W.words w.old) g.now S
@@ -92,7 +92,7 @@ fn reclaimable<W: Words>(w: &mut W, g: &Ground, base: u64, n: u64) -> Result<(),
     free(w, g, base, n)
 }
 
-// None of some pages of the host's is mapped shared in a TVM.
+// No TVM maps any of these pages of the host's.
 fn none_shared<W: Words>(w: &mut W, g: &Ground, base: u64, n: u64) -> Result<(), Reply>
     requires ready { IsReady (W.words w.old) g.now }
     requires inside { base / 4096 + n ≤ g.now.pages }
@@ -103,7 +103,7 @@ fn none_shared<W: Words>(w: &mut W, g: &Ground, base: u64, n: u64) -> Result<(),
     check(any_mapped(w, pages_from(base, n)), Status::Denied)
 }
 
-// Gives the pages of a range back to the host. Their frames are zeros before any of their words says so.
+// Gives the pages of a range back to the host, once they are zeros; it takes the memory for this condition alone.
 fn give_back<W: Words>(w: &mut W, memory: &Memory, range: PageRange)
     requires zeros { AreZeros memory.now range.first.0 range.count }
     requires places { range.first.0 + range.count ≤ length (W.words w.old) }

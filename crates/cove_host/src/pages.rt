@@ -1,4 +1,4 @@
-//! Pages by their byte addresses, and the pages that calls give to TVMs.
+//! Pages by their byte addresses, and how a TVM is given them.
 
 ghost use Rattle.std.specs.Prelude.{◌≡◌, ◌+◌, ◌/◌, ◌<◌, ◌≤◌, ◌^◌, length};
 ghost use Rattle.cove_base.specs.PageWords.{given};

@@ -41,7 +41,7 @@ pub fn add_memory_region<W: Words>(
     }
 }
 
-// Whether a region may be added, or the answer.
+// The checks of the call, in the order of its rule.
 fn addable(g: &Ground, t: u64, gpa: u64, len: u64) -> Result<(), Reply>
     ensures told { (words : List ℕ) (hart : ℕ) (S : State) → Stands words g.now S
         → result ≡ all_checked (rule S hart (Region t gpa len)).checks }
@@ -56,8 +56,8 @@ fn addable(g: &Ground, t: u64, gpa: u64, len: u64) -> Result<(), Reply>
     room_for_region(g, t)
 }
 
-/// A region is not empty and ends within the guest addresses.
-pub(crate) fn is_area(gpa: u64, len: u64) -> Result<(), Reply>
+// The region is not empty and ends within the guest addresses.
+fn is_area(gpa: u64, len: u64) -> Result<(), Reply>
     ensures told { result ≡ checked (IsArea gpa len) }
     ensures some { OnOk result (0 < len) }
     ensures within { OnOk result (gpa + len ≤ 2 ^ 41) }
@@ -66,8 +66,8 @@ pub(crate) fn is_area(gpa: u64, len: u64) -> Result<(), Reply>
     check(len == 0 || end > 1 << 41, Status::InvalidAddress)
 }
 
-/// The region meets none of the TVM.
-pub(crate) fn no_overlap(g: &Ground, t: u64, gpa: u64, len: u64) -> Result<(), Reply>
+// The region meets none of the TVM's.
+fn no_overlap(g: &Ground, t: u64, gpa: u64, len: u64) -> Result<(), Reply>
     requires { gpa + len ≤ 2 ^ 41 }
     ensures told { (words : List ℕ) (S : State) → Stands words g.now S → result ≡ checked (NoOverlap S t gpa len) }
 {
@@ -77,8 +77,8 @@ pub(crate) fn no_overlap(g: &Ground, t: u64, gpa: u64, len: u64) -> Result<(), R
     )
 }
 
-/// The TVM may have another region.
-pub(crate) fn room_for_region(g: &Ground, t: u64) -> Result<(), Reply>
+// The TVM may have another region.
+fn room_for_region(g: &Ground, t: u64) -> Result<(), Reply>
     ensures told { (words : List ℕ) (S : State) → Stands words g.now S → result ≡ checked (RoomForRegion S t) }
 {
     check(is_full(g, t), Status::Failed)
@@ -95,7 +95,7 @@ fn meets(g: &Ground, t: u64, first: Gpn, count: u64) -> bool
     }
 }
 
-// Whether the TVM has as many regions as it may.
+// Whether the TVM has as many regions as it may have.
 fn is_full(g: &Ground, t: u64) -> bool
     ensures { result ≡ has_all_regions (live_at g.now.tvms t) }
 {
@@ -105,7 +105,7 @@ fn is_full(g: &Ground, t: u64) -> bool
     }
 }
 
-// Adds a region to the live TVM with a number.
+// Adds a region to the live TVM `t`.
 fn add(g: &mut Ground, t: u64, first: Gpn, count: u64)
     requires some { 0 < count }
     requires fits { first.0 + count ≤ 2 ^ 52 }

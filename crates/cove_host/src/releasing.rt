@@ -1,18 +1,15 @@
-//! The pages of a TVM that is being destroyed, which are taken back once its tables are clear.
+//! How a TVM's pages are taken back, once its tables are clear.
 
-ghost use Rattle.std.specs.Prelude.{◌≡◌, ◌+◌, ◌<◌, ◌≤◌, ◌^◌, length, slice_set};
-ghost use Rattle.std.specs.List.{range_with_len};
-ghost use Rattle.cove_base.specs.PageWords.{released};
-ghost use Rattle.cove_base.specs.Places.{page_word};
+ghost use Rattle.std.specs.Prelude.{◌≡◌, ◌+◌, ◌<◌, ◌≤◌, ◌^◌, length};
 ghost use Rattle.cove_base.specs.Stores.{AllAllowed, stored};
 ghost use Rattle.cove_host.specs.Released.{HavePlaces, all_cpu_pages, cpu_pages, own_pages, release_stores};
 
-use cove_base::{Page, PageRange, Words};
+use cove_base::{PageRange, Words};
 use cove_owner::{PageState, set_all, set_state};
 use cove_stage2::Pool;
 use cove_tvm::{Tvm, VcpuSlot};
 
-/// Takes back the pages of a TVM: those that were gathered, its root, its state page, and its vCPUs'.
+/// Takes back the pages of a TVM: those that were gathered in its pool, its root, its state page, and its vCPUs'.
 pub(crate) fn release_pages<W: Words>(w: &mut W, tvm: &Tvm)
     requires places { HavePlaces (W.words w.old) (own_pages tvm.now) }
     requires root { tvm.now.tables.root.0 + 4 ≤ 2 ^ 16 }

@@ -1,4 +1,4 @@
-//! The checks of runs of pages, each once for every call that has it.
+//! The checks of runs of pages that calls share.
 
 ghost use Rattle.std.specs.Prelude.{◌≡◌, ◌+◌, ◌/◌, ◌≤◌, OnOk};
 ghost use Rattle.cove_base.specs.Unchanged.{Unchanged};
@@ -15,7 +15,7 @@ use crate::pages::pages_from;
 use cove_base::{RANGE_LIMIT, Reply, Status, Words};
 use cove_tvm::Ground;
 
-/// The number is one of pages that a call may name.
+/// A call may name so many pages.
 pub(crate) fn counted(n: u64) -> Result<(), Reply>
     ensures told { result ≡ checked (Count n) }
     ensures within { OnOk result ((1 ≤ n) × (n ≤ RANGE_LIMIT)) }

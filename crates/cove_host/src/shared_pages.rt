@@ -1,4 +1,4 @@
-//! Pages of the host's that a TVM maps.
+//! Pages of the host's for a TVM that is finalized.
 
 ghost use Rattle.std.specs.Prelude.{◌≡◌, ◌+◌, ◌/◌, ◌^◌, ◌<◌, ◌≤◌, ℕ, OnOk};
 ghost use Rattle.cove_base.specs.Unchanged.{Unchanged};
@@ -47,7 +47,7 @@ pub fn add_shared_pages<W: Words>(
     }
 }
 
-// Whether the pages may be mapped, or the answer.
+// The checks of the call, in the order of its rule.
 fn sharable<W: Words>(
     w: &mut W,
     g: &Ground,

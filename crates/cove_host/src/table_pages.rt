@@ -4,7 +4,6 @@ ghost use Rattle.std.specs.Prelude.{◌≡◌, ◌+◌, ◌-◌, ◌/◌, ◌^�
 ghost use Rattle.std.specs.List.{range_with_len};
 ghost use Rattle.cove_base.specs.Unchanged.{Unchanged};
 ghost use Rattle.cove_base.specs.declared.calls.HostCall.TheVariants.{Tables};
-ghost use Rattle.cove_base.specs.declared.limits.TheConstants.{RANGE_LIMIT};
 ghost use Rattle.cove_tvm.specs.Called.{Called, IsReady};
 ghost use Rattle.cove_host.specs.Checked.{all_checked};
 ghost use Rattle.cove_model.specs.HostCalls.{rule};
@@ -50,7 +49,7 @@ pub fn add_page_table_pages<W: Words>(
     }
 }
 
-// Whether these pages may be given for tables, or the answer.
+// The checks of the call, in the order of its rule.
 fn addable<W: Words>(w: &mut W, g: &Ground, t: u64, base: u64, n: u64) -> Result<(), Reply>
     requires ready { IsReady (W.words w.old) g.now }
     ensures told { (hart : ℕ) (S : State) → Stands (W.words w.old) g.now S
@@ -65,7 +64,7 @@ fn addable<W: Words>(w: &mut W, g: &Ground, t: u64, base: u64, n: u64) -> Result
     free(w, g, base, n)
 }
 
-// Adds pages to the pool of the live TVM with a number.
+// Adds pages to the pool of the live TVM `t`.
 fn add(g: &mut Ground, t: u64, base: u64, n: u32)
     requires room { (tvm : Tvm) → live_at g.old.tvms t ≡ Some tvm → length tvm.pool.pages + n ≤ tvm.pool.room }
     requires fits { base / 4096 + n < 2 ^ 32 }

@@ -1,6 +1,6 @@
 //! The creation of vCPUs.
 
-ghost use Rattle.std.specs.Prelude.{◌≡◌, ◌-◌, ◌/◌, ◌<◌, ◌≤◌, ℕ, OnOk, Some};
+ghost use Rattle.std.specs.Prelude.{◌≡◌, ◌-◌, ◌/◌, ◌<◌, ℕ, OnOk, Some};
 ghost use Rattle.cove_base.specs.Unchanged.{Unchanged};
 ghost use Rattle.cove_base.specs.declared.calls.HostCall.TheVariants.{Vcpu};
 ghost use Rattle.cove_base.specs.declared.limits.TheConstants.{VCPU_LIMIT};
@@ -23,7 +23,7 @@ use cove_base::{HartId, Page, Regs, Reply, Role, TvmId, VCPU_LIMIT, Words};
 use cove_imsic::FileState;
 use cove_tvm::{Ground, RunState, Tvm, VcpuSlot};
 
-/// Creates a vCPU of a TVM, with the page at the byte address `state`.
+/// Creates the vCPU `v` of a TVM, with the page at the byte address `state` as its state page.
 pub fn create_vcpu<W: Words>(
     w: &mut W,
     g: &mut Ground,
@@ -48,7 +48,7 @@ pub fn create_vcpu<W: Words>(
     }
 }
 
-// Whether a vCPU may be created of this page, or the answer.
+// The checks of the call, in the order of its rule.
 fn addable<W: Words>(w: &mut W, g: &Ground, t: u64, v: u64, state: u64) -> Result<(), Reply>
     requires ready { IsReady (W.words w.old) g.now }
     ensures told { (hart : ℕ) (S : State) → Stands (W.words w.old) g.now S
@@ -65,7 +65,7 @@ fn addable<W: Words>(w: &mut W, g: &Ground, t: u64, v: u64, state: u64) -> Resul
     free(w, g, state, 1)
 }
 
-// Adds a vCPU to the live TVM with a number.
+// Adds a vCPU to the live TVM `t`.
 fn add(g: &mut Ground, t: u64, v: u64, page: Page)
     requires { v < VCPU_LIMIT }
     ensures { (old : Tvm) → live_at g.old.tvms t ≡ Some old → (new : Tvm) × AddsCpu v page.0 old new

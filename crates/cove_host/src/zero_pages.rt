@@ -49,7 +49,7 @@ pub fn add_zero_pages<W: Words>(
     }
 }
 
-// Whether pages of zeros may be added, or the answer.
+// The checks of the call, in the order of its rule.
 fn zeroable<W: Words>(
     w: &mut W,
     g: &Ground,
