@@ -41,12 +41,79 @@ fn answer(w: &mut Plain, g: &mut Ground, second: bool, c: HostCall) -> Reply
     call(w, g, hart_of(second), c)
 }
 
+fn create(state: u64) -> HostCall {
+    HostCall::Create {
+        root: 0x4000,
+        state,
+    }
+}
+
+fn measured(dst: u64) -> HostCall {
+    HostCall::Measured {
+        t: 1,
+        src: 0x1000,
+        dst,
+        n: 1,
+        gpa: 0,
+    }
+}
+
+fn region(gpa: u64) -> HostCall {
+    HostCall::Region {
+        t: 1,
+        gpa,
+        len: 0x10000,
+    }
+}
+
+fn vcpu(state: u64) -> HostCall {
+    HostCall::Vcpu { t: 1, v: 0, state }
+}
+
+fn finalize() -> HostCall {
+    HostCall::Finalize {
+        t: 1,
+        pc: 0,
+        arg: 7,
+    }
+}
+
+fn tables() -> HostCall {
+    HostCall::Tables {
+        t: 1,
+        base: 0x9000,
+        n: 2,
+    }
+}
+
+fn zero() -> HostCall {
+    HostCall::Zero {
+        t: 1,
+        base: 0xd000,
+        n: 1,
+        gpa: 0x1000,
+    }
+}
+
+fn shared() -> HostCall {
+    HostCall::Shared {
+        t: 1,
+        base: 0x1000,
+        n: 1,
+        gpa: 0x2000,
+    }
+}
+
+fn destroy() -> HostCall {
+    HostCall::Destroy { t: 1 }
+}
+
 #[test]
 fn calls_of_two_harts_are_answered_in_turn(rt: HostRuntime) -> Result<(), Fail> {
     let alloc = rt.alloc();
     let script = script(alloc)?;
     let mut built = build(alloc, &script)?;
-    let table: [(bool, HostCall, Status, u64); 16] = [
+    let table: [(bool, HostCall, Status, u64); 39] = [
         (false, convert(0x4001, 1), Status::InvalidAddress, 0),
         (false, convert(0x4000, 0), Status::InvalidParam, 0),
         (false, convert(0x4001, 17), Status::InvalidParam, 0),
@@ -63,6 +130,29 @@ fn calls_of_two_harts_are_answered_in_turn(rt: HostRuntime) -> Result<(), Fail> 
         (false, reclaim(0x5000, 1), Status::InvalidAddress, 0),
         (false, HostCall::Info, Status::Success, 1),
         (true, HostCall::Kick { hart: 1 }, Status::NotSupported, 0),
+        (false, convert(0x4000, 1), Status::Success, 0),
+        (false, convert(0x6000, 9), Status::Success, 0),
+        (false, HostCall::GlobalFence, Status::Success, 0),
+        (false, create(0x8000), Status::InvalidAddress, 0),
+        (true, HostCall::LocalFence, Status::Success, 0),
+        (false, create(0x7000), Status::InvalidAddress, 0),
+        (false, create(0x8000), Status::Success, 1),
+        (true, region(0), Status::Success, 0),
+        (false, measured(0xc000), Status::Failed, 2),
+        (false, tables(), Status::Success, 0),
+        (false, measured(0xc000), Status::Success, 0),
+        (false, measured(0xd000), Status::AlreadyAvailable, 0),
+        (false, finalize(), Status::Denied, 0),
+        (true, vcpu(0xb000), Status::Success, 0),
+        (false, vcpu(0xe000), Status::AlreadyAvailable, 0),
+        (false, finalize(), Status::Success, 0),
+        (false, zero(), Status::Success, 0),
+        (false, shared(), Status::InvalidAddress, 0),
+        (false, region(0x20000), Status::Denied, 0),
+        (false, reclaim(0xd000, 1), Status::InvalidAddress, 0),
+        (true, destroy(), Status::Success, 0),
+        (true, destroy(), Status::InvalidParam, 0),
+        (false, reclaim(0x4000, 12), Status::Success, 0),
     ];
     for (second, c, status, value) in table {
         let reply = answer(&mut built.words, &mut built.mon.ground, second, c);

@@ -19,8 +19,6 @@ mod GuestsTold
 mod HartsTold
 mod LifeTold
 mod MeasuredRecords
-mod MetCalls
-mod NewBoard
 mod PageTests
 mod PassedCalls
 mod PassedChecks

@@ -43,6 +43,3 @@ pub use shared_pages::add_shared_pages;
 pub use table_pages::add_page_table_pages;
 pub use vcpu_creation::create_vcpu;
 pub use zero_pages::add_zero_pages;
-
-#[cfg(test)]
-mod tests;
