@@ -1,5 +1,5 @@
 -- Words and ground stand after a TVM was destroyed.
-use Rattle.std.proofs.Common.{◌≡◌, ◌≢◌, ℕ, zero, suc, ◌+◌, ◌*◌, ◌/◌, ◌%◌, ◌^◌, ◌<◌, ◌≤◌, ◌∙◌, Bool, true, false, cond, eqb, eqb-true, ltb, List, [], get_or, length, length-set, map, Option, Some, None, refl, sym, ap, subst, inl, inr, ◌⊎◌, arith}
+use Rattle.std.proofs.Common.{◌≡◌, ◌≢◌, ℕ, suc, ◌+◌, ◌*◌, ◌/◌, ◌%◌, ◌^◌, ◌<◌, ◌≤◌, ◌∙◌, Bool, true, false, cond, eqb, eqb-true, ltb, List, [], get_or, length, length-set, map, Option, Some, None, refl, sym, ap, subst, inl, inr, arith}
 use Rattle.std.proofs.Math.Path.{fun_ext}
 use Rattle.std.proofs.lemmas.Bool.{cases_eq, eq-eqb, ne_eqb}
 use Rattle.std.proofs.lemmas.List.{length-map}
@@ -9,9 +9,9 @@ use Rattle.cove_base.specs.Places.{all_words, answered_word, epoch_word, hart_wo
 use Rattle.cove_base.specs.declared.calls.HostCall.TheVariants.{Destroy}
 use Rattle.cove_base.specs.declared.limits.TheConstants.{TVM_LIMIT}
 use Rattle.cove_base.specs.declared.numbers.Role.{Role}
-use Rattle.cove_base.specs.declared.numbers.Role.TheVariants.{Root, State, Table, Vcpu, Data}
+use Rattle.cove_base.specs.declared.numbers.Role.TheVariants.{Root, Table}
 use Rattle.cove_model.proofs.KeyedLemmas.{at_dropped}
-use Rattle.cove_model.proofs.LeafWords.{given_host, given_number, given_role, role_small}
+use Rattle.cove_model.proofs.LeafWords.{given_host, given_number, role_small}
 use Rattle.cove_model.proofs.OwnedStores.{one_owner}
 use Rattle.cove_model.proofs.Runs.{page_map}
 use Rattle.cove_model.proofs.StandLemmas.{seat_moves}

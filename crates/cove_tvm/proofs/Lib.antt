@@ -1,4 +1,7 @@
+mod CallExampleProofs
+mod DestroyExampleProofs
 mod RoomLemmas
+mod RunExampleProofs
 pub mod BegunTvm
 pub mod BuiltRegions
 pub mod ChangedFields

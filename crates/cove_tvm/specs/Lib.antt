@@ -1,4 +1,5 @@
 pub mod BuiltTvms
+pub mod CallExamples
 pub mod Called
 pub mod DestroyedTvms
 pub mod Entered
@@ -16,6 +17,7 @@ pub mod NewTvms
 pub mod NewVcpus
 pub mod OneTvm
 pub mod PrivateRuns
+pub mod RunExamples
 pub mod Served
 pub mod SharedRuns
 pub mod Slots

@@ -1,17 +1,19 @@
 //! Worked examples, which the checker computes: what each definition of this crate says yes to, and what it says no to.
 
-ghost use Rattle.std.specs.Prelude.{◌≡◌, ◌<◌, ℕ, List, [], ◌∷◌, Some, None, false, true, slice_index};
+ghost use Rattle.std.specs.Prelude.{◌≡◌, ◌+◌, ◌<◌, ℕ, List, [], ◌∷◌, Some, None, false, true, slice_index};
 ghost use Rattle.cove_base.specs.PageWords.{given, released};
 ghost use Rattle.cove_base.specs.Tables.{present};
 ghost use Rattle.cove_base.specs.declared.numbers.Role.TheVariants.{Root, Table};
 ghost use Rattle.cove_model.specs.States.{State};
 ghost use Rattle.cove_tvm.specs.Entered.{WaitsSince, entered_below};
 ghost use Rattle.cove_tvm.specs.Examples.{just, nine_free, own_five, two_inside};
+ghost use Rattle.cove_tvm.specs.GroundLaws.{KeepsTvms};
 ghost use Rattle.cove_tvm.specs.KeptOwn.{KeepsTvm};
 ghost use Rattle.cove_tvm.specs.LeafStands.{LeafStands};
 ghost use Rattle.cove_tvm.specs.Leaves.{LeavesEveryTvm, LeavesTvm};
 ghost use Rattle.cove_tvm.specs.NewTvms.{MayCreate, create_stores};
 ghost use Rattle.cove_tvm.specs.NewVcpus.{AddsCpu, IsNewCpu};
+ghost use Rattle.cove_tvm.specs.OneTvm.{KeepsMappings};
 ghost use Rattle.cove_tvm.specs.Stands.{Stands};
 ghost use Rattle.cove_tvm.specs.TvmTables.{live_at};
 ghost use Rattle.cove_tvm.specs.declared.ground.Ground.{Ground};
@@ -67,6 +69,15 @@ pub fn worked_adding()
     ensures other { (tvm : Tvm) (slot : VcpuSlot) → tvm.v1 ≡ None → AddsCpu 1 5 tvm (record tvm { v2 = Some slot }) → ⊥ }
     ensures changed { (tvm : Tvm) (slot : VcpuSlot) → tvm.v2 ≡ None
         → AddsCpu 1 5 tvm (record tvm { v1 = Some slot; v2 = Some slot }) → ⊥ }
+{}
+
+/// A change of owners leaves all that TVMs are; finalizing a TVM keeps its number and its mappings.
+pub fn worked_changes()
+    ensures owners { KeepsTvms nine_free (record nine_free { pages = [] }) }
+    ensures made { KeepsTvms nine_free (record nine_free { made = 1 }) → ⊥ }
+    ensures finalized { KeepsMappings (λ tvm. record tvm { runnable = true }) }
+    ensures renumbered { KeepsMappings (λ tvm. record tvm { number = tvm.number + 1 }) → ⊥ }
+    ensures unmapped { KeepsMappings (λ tvm. record tvm { mappings = [] }) → ⊥ }
 {}
 
 /// A ground with a live TVM stands for no state without one.
