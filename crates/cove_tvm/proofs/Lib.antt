@@ -2,6 +2,7 @@ mod CallExampleProofs
 mod DestroyExampleProofs
 mod RoomLemmas
 mod RunExampleProofs
+mod StateExampleProofs
 pub mod BegunTvm
 pub mod BuiltRegions
 pub mod ChangedFields

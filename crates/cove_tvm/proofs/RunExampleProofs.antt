@@ -14,6 +14,7 @@ use Rattle.cove_model.proofs.Lists.{replicate_zero}
 use Rattle.cove_model.specs.LawfulStores.{IsBehind}
 use Rattle.cove_model.specs.Tvms.{new_tvm}
 use Rattle.cove_stage2.proofs.RestLemmas.{lacks-rest}
+use Rattle.cove_stage2.proofs.ZeroLemmas.{empty-entries, empty-tree}
 use Rattle.cove_stage2.specs.Changes.{ChangesLeaf, NamesWay}
 use Rattle.cove_stage2.specs.Lacked.{tables_lacked}
 use Rattle.cove_stage2.specs.LawfulTables.{AreGiven}
@@ -35,28 +36,17 @@ past_pages place past = get_or-append_right first_words (replicate (all_words 8 
 long : length mappable ≡ 4125
 long = refl
 
-no_root : (n : ℕ) → n < 2048 → entry_at 8 4 mappable (InRoot n) ≡ 0
+no_root : (n : ℕ) → n < 2048 → get_or mappable (table_word 8 4 n) 0 ≡ 0
 no_root n low = past_pages (table_word 8 4 n) (omega arith)
 
-no_middle : (n : ℕ) → n < 2 ^ 20 → entry_at 8 4 mappable (InMiddle n) ≡ 0
-no_middle n low = ap (λ k. below 8 mappable k (n % 512)) (no_root (n / 512) (omega arith)) ∙ below-absent 8 mappable (n % 512)
-
 no_entry : (a : Slot) → IsSlot a → entry_at 8 4 mappable a ≡ 0
-no_entry (InRoot n) low = no_root n low
-no_entry (InMiddle n) low = no_middle n low
-no_entry (InLast g) low = ap (λ k. below 8 mappable k (g % 512)) (no_middle (g / 512) (omega arith)) ∙ below-absent 8 mappable (g % 512)
+no_entry a slot = empty-entries 8 4 mappable no_root a slot
 
 no_link : (a : Slot) (page : ℕ) → IsLinkSlot a → entry_at 8 4 mappable a ≡ next_table page → ⊥
 no_link a page slot named = let e = sym (no_entry a (link-slot a slot)) ∙ named in omega arith
 
-empty_tree : IsTree 8 4 mappable
-empty_tree = record {
-  fits = omega arith;
-  size = omega (arith, long);
-  links = λ a slot. NoTable (no_entry a (link-slot a slot));
-  leaves = λ g low. IsAbsent (no_entry (InLast g) low);
-  apart = λ a b page slot other named also. absurd (no_link a page slot named);
-}
+root_empty : IsTree 8 4 mappable
+root_empty = empty-tree 8 4 mappable (omega arith) (omega (arith, long)) no_root
 
 spare_page : (page : ℕ) → page < 4 → IsSpare 8 4 mappable page
 spare_page page low = record {
@@ -110,8 +100,8 @@ given_tables = record {
     spare (suc zero) low = refl
     spare (suc (suc k)) low = absurd (omega arith)
 
-tables : AreTables 8 1 mappable 1 4 (0 ∷ 1 ∷ [])
-tables = record { tree = empty_tree; spare = spare_pool; given = given_tables }
+pub tables : AreTables 8 1 mappable 1 4 (0 ∷ 1 ∷ [])
+tables = record { tree = root_empty; spare = spare_pool; given = given_tables }
 
 -- ---- what a run needs
 
@@ -155,13 +145,13 @@ abbrev root_linked : List ℕ
 root_linked = set mappable 2056 (next_table 1)
 
 root_at : IsStoreAt 8 4 mappable (InRoot 0) 2056
-root_at = record { tree = empty_tree; slot = omega arith; at = refl }
+root_at = record { tree = root_empty; slot = omega arith; at = refl }
 
 root_only : OnlyAt 8 4 mappable root_linked (InRoot 0) (next_table 1)
 root_only = link-store 8 4 mappable (InRoot 0) 2056 1 (omega arith) root_at (no_entry (InRoot 0) (omega arith)) (spare_page 1 (omega arith))
 
 root_tree : IsTree 8 4 root_linked
-root_tree = tree-link 8 4 mappable root_linked (InRoot 0) 1 empty_tree (omega arith) (spare_page 1 (omega arith)) root_only
+root_tree = tree-link 8 4 mappable root_linked (InRoot 0) 1 root_empty (omega arith) (spare_page 1 (omega arith)) root_only
 
 spare_yet : IsSpare 8 4 root_linked 0
 spare_yet = spare-kept 8 4 mappable (InRoot 0) 2056 (next_table 1) 0 root_at root_only (λ e. omega arith) (spare_page 0 (omega arith))
@@ -303,3 +293,17 @@ leaf_alone are =
 
 pub table_lost : AreMappings 8 1 mappable 1 4 (0 ∷ []) (record (new_tvm 1) { tables = 0 ∷ 1 ∷ [] }) → ⊥
 table_lost are = let is : ◌≡◌ {A = ℕ} 2 1 = are.count in omega arith
+
+-- ---- tables and their pool
+
+pub twice : AreTables 8 1 mappable 1 4 (0 ∷ 0 ∷ []) → ⊥
+twice are = let is : ◌≡◌ {A = ℕ} 0 1 = are.spare.differ 0 1 (omega arith) (omega arith) refl in omega arith
+
+pub memory : AreTables 8 1 mappable 1 4 (2 ∷ []) → ⊥
+memory are = let is : given 1 Data ≡ given 1 Table = are.given.spare 0 (omega arith) in omega arith
+
+pub another_tvm : AreTables 8 1 mappable 2 4 [] → ⊥
+another_tvm are = let is : given 1 Root ≡ given 2 Root = are.given.root_is.roots 0 (omega arith) in omega arith
+
+pub in_use : AreTables 8 1 nine_mapped 1 4 (0 ∷ []) → ⊥
+in_use are = (are.spare.each 0 (omega arith)).unnamed (InMiddle 0) (omega arith) middle_there

@@ -22,6 +22,7 @@ pub mod Served
 pub mod SharedRuns
 pub mod Slots
 pub mod Stands
+pub mod StateExamples
 pub mod TvmLends
 pub mod TvmStands
 pub mod TvmTables

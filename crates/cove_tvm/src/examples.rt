@@ -13,8 +13,9 @@ ghost use Rattle.cove_tvm.specs.LeafStands.{LeafStands};
 ghost use Rattle.cove_tvm.specs.Leaves.{LeavesEveryTvm, LeavesTvm};
 ghost use Rattle.cove_tvm.specs.NewTvms.{MayCreate, create_stores};
 ghost use Rattle.cove_tvm.specs.NewVcpus.{AddsCpu, IsNewCpu};
-ghost use Rattle.cove_tvm.specs.OneTvm.{KeepsMappings};
+ghost use Rattle.cove_tvm.specs.OneTvm.{KeepsMappings, LeavesOthers};
 ghost use Rattle.cove_tvm.specs.Stands.{Stands};
+ghost use Rattle.cove_tvm.specs.StateExamples.{on_vcpu};
 ghost use Rattle.cove_tvm.specs.TvmTables.{live_at};
 ghost use Rattle.cove_tvm.specs.declared.ground.Ground.{Ground};
 ghost use Rattle.cove_tvm.specs.declared.machines.Life.TheVariants.{Gone, Runnable};
@@ -78,6 +79,15 @@ pub fn worked_changes()
     ensures finalized { KeepsMappings (λ tvm. record tvm { runnable = true }) }
     ensures renumbered { KeepsMappings (λ tvm. record tvm { number = tvm.number + 1 }) → ⊥ }
     ensures unmapped { KeepsMappings (λ tvm. record tvm { mappings = [] }) → ⊥ }
+{}
+
+/// A call on TVM 1 that changes nothing leaves the others; one that takes TVM 2 away, or moves a hart, doesn't.
+pub fn worked_others()
+    ensures same { (words : List ℕ) (G : Ground) (S : State) → LeavesOthers 1 words words G G.tvms S S }
+    ensures taken { (words : List ℕ) (G : Ground) (S : State) (tvm : Tvm) → live_at G.tvms 2 ≡ Some tvm
+        → LeavesOthers 1 words words G (record G.tvms { tvms = [] }) S S → ⊥ }
+    ensures moved { (words : List ℕ) (G : Ground)
+        → LeavesOthers 1 words words G G.tvms nine_free (record nine_free { seats = on_vcpu 0 }) → ⊥ }
 {}
 
 /// A ground with a live TVM stands for no state without one.

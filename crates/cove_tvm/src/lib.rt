@@ -18,6 +18,7 @@ mod machines;
 mod pool_laws;
 mod run_examples;
 mod run_laws;
+mod state_examples;
 mod table_laws;
 mod tvms;
 mod vcpu_laws;
@@ -32,7 +33,7 @@ pub use call_examples::{
 pub use destroy_laws::destroy_law;
 pub use examples::{
     worked_adding, worked_changes, worked_creation, worked_harts, worked_keeping, worked_leaves,
-    worked_leaving, worked_numbers, worked_standing,
+    worked_leaving, worked_numbers, worked_others, worked_standing,
 };
 pub use ground::Ground;
 pub use host_side::HostSide;
@@ -40,9 +41,13 @@ pub use laws::{building_law, creation_law, frame_law, opening_law};
 pub use machines::{Life, Tvm};
 pub use pool_laws::tables_law;
 pub use run_examples::{
-    worked_filling, worked_mapping, worked_mappings, worked_raising, worked_runs_to_map,
+    worked_filling, worked_mapping, worked_mappings, worked_pools, worked_raising,
+    worked_runs_to_map,
 };
 pub use run_laws::run_law;
+pub use state_examples::{
+    worked_binding, worked_blocking, worked_living, worked_running, worked_vcpus,
+};
 pub use table_laws::missing_law;
 pub use tvms::Tvms;
 pub use vcpu_laws::vcpu_law;

@@ -10,7 +10,7 @@ ghost use Rattle.cove_tvm.specs.MappedRuns.{AreMapped, MayMap};
 ghost use Rattle.cove_tvm.specs.PrivateRuns.{FillsFrames};
 ghost use Rattle.cove_tvm.specs.RunExamples.{mappable, nine_linked, nine_mapped};
 ghost use Rattle.cove_tvm.specs.SharedRuns.{RaisesCounts};
-ghost use Rattle.cove_tvm.specs.TvmStands.{AreMappings};
+ghost use Rattle.cove_tvm.specs.TvmStands.{AreMappings, AreTables};
 
 /// Each frame of a run is filled with its own content, and no frame before, behind or past the board changes.
 pub fn worked_filling()
@@ -60,4 +60,13 @@ pub fn worked_mappings()
     ensures no_leaf { AreMappings 8 1 mappable 1 4 (0 ∷ 1 ∷ []) (record (new_tvm 1) { tables = 0 ∷ 1 ∷ []; mappings = own_five ∷ [] }) → ⊥ }
     ensures leaf_alone { AreMappings 8 1 nine_mapped 1 4 [] (record (new_tvm 1) { tables = 0 ∷ 1 ∷ []; thirds = 0 ∷ []; seconds = 0 ∷ [] }) → ⊥ }
     ensures table_lost { AreMappings 8 1 mappable 1 4 (0 ∷ []) (record (new_tvm 1) { tables = 0 ∷ 1 ∷ [] }) → ⊥ }
+{}
+
+/// A TVM's pool has pages that are given to it for tables, each once, and none that serves a slot.
+pub fn worked_pools()
+    ensures own { AreTables 8 1 mappable 1 4 (0 ∷ 1 ∷ []) }
+    ensures another_tvm { AreTables 8 1 mappable 2 4 [] → ⊥ }
+    ensures twice { AreTables 8 1 mappable 1 4 (0 ∷ 0 ∷ []) → ⊥ }
+    ensures memory { AreTables 8 1 mappable 1 4 (2 ∷ []) → ⊥ }
+    ensures in_use { AreTables 8 1 nine_mapped 1 4 (0 ∷ []) → ⊥ }
 {}
