@@ -1,5 +1,6 @@
 mod CallExampleProofs
 mod DestroyExampleProofs
+mod LifeExampleProofs
 mod RoomLemmas
 mod RunExampleProofs
 mod StateExampleProofs

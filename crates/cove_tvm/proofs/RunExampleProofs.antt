@@ -1,14 +1,13 @@
 -- What the examples of runs of guest pages show.
-use Rattle.std.proofs.Common.{◌≡◌, ◌≢◌, ℕ, zero, suc, ◌+◌, ◌-◌, ◌/◌, ◌%◌, ◌^◌, ◌<◌, ◌≤◌, ◌==◌, not, Bool, true, false, List, [], ◌∷◌, get_or, length, set, replicate, refl, sym, ap, subst, ◌∙◌, inl, inr, arith}
+use Rattle.std.proofs.Common.{◌≡◌, ◌≢◌, ℕ, zero, suc, ◌+◌, ◌-◌, ◌<◌, ◌≤◌, ◌==◌, not, Bool, true, false, List, [], ◌∷◌, get_or, length, set, replicate, refl, sym, ap, subst, ◌∙◌, inl, inr, arith}
 use Rattle.std.proofs.lemmas.List.{get_or-append_right}
-use Rattle.cove_base.proofs.TableLemmas.{below-absent}
 use Rattle.cove_base.proofs.TreeLemmas.{last-number, link-slot, middle≢last, root≢last, root≢middle}
 use Rattle.cove_base.proofs.TreeStores.{IsStoreAt, OnlyAt, leaf-store, link-store, spare-kept, tree-leaf, tree-link}
 use Rattle.cove_base.specs.PageWords.{given, host}
 use Rattle.cove_base.specs.Places.{all_words, table_word}
 use Rattle.cove_base.specs.Stores.{stored}
 use Rattle.cove_base.specs.TableWords.{private_leaf}
-use Rattle.cove_base.specs.Tables.{Slot, InRoot, InMiddle, InLast, IsAbsent, IsPresent, IsLinkSlot, IsPool, IsSlot, IsSpare, IsTree, NoTable, below, entry_at, leaf_at, next_table, present}
+use Rattle.cove_base.specs.Tables.{Slot, InRoot, InMiddle, InLast, IsPresent, IsLinkSlot, IsPool, IsSlot, IsSpare, IsTree, below, entry_at, leaf_at, next_table, present}
 use Rattle.cove_base.specs.declared.numbers.Role.TheVariants.{Root, Table, Data}
 use Rattle.cove_model.proofs.Lists.{replicate_zero}
 use Rattle.cove_model.specs.LawfulStores.{IsBehind}
@@ -215,7 +214,7 @@ left : [] ≡ pool_left 8 4 mappable (0 ∷ 1 ∷ []) 9
 unfolding below
 left = refl
 
-maps : MapsNext 8 4 9 2 0 false mappable (0 ∷ 1 ∷ []) nine_mapped []
+pub maps : MapsNext 8 4 9 2 0 false mappable (0 ∷ 1 ∷ []) nine_mapped []
 maps = record {
   stores = stores;
   leaf = changes;
@@ -238,11 +237,20 @@ mapped_before may =
     let there : leaf_at 8 4 nine_mapped 9 ≡ 2271 = leaf_only.here in
     omega arith
 
+none_linked : leaf_at 8 4 nine_linked 9 ≡ 0
+none_linked =
+    middle_only.others (InLast 9) (omega arith) (λ e. middle≢last 0 9 (sym e)) ∙ root_only.others (InLast 9) (omega arith) (λ e. root≢last 0 9 (sym e))
+    ∙ no_entry (InLast 9) (omega arith)
+
+pub linked_alone : MapsNext 8 4 9 2 0 false mappable (0 ∷ 1 ∷ []) nine_linked [] → ⊥
+linked_alone next = let there : leaf_at 8 4 nine_linked 9 ≡ 2271 = next.leaf.here in omega (arith, there, none_linked)
+
+pub page_kept : MapsNext 8 4 9 2 0 false mappable (0 ∷ 1 ∷ []) nine_mapped (0 ∷ []) → ⊥
+page_kept next = let is : 1 + tables_lacked 8 4 mappable 9 1 ≡ 2 = next.lost in omega (arith, is, lacked)
+
 pub no_leaf : AreMapped 8 1 1 4 9 2 1 1 false mappable (0 ∷ 1 ∷ []) nine_linked [] → ⊥
 no_leaf mapped =
-    let none : leaf_at 8 4 nine_linked 9 ≡ 0 =
-    middle_only.others (InLast 9) (omega arith) (λ e. middle≢last 0 9 (sym e)) ∙ root_only.others (InLast 9) (omega arith) (λ e. root≢last 0 9 (sym e))
-    ∙ no_entry (InLast 9) (omega arith) in
+    let none : leaf_at 8 4 nine_linked 9 ≡ 0 = none_linked in
     let there : leaf_at 8 4 nine_linked 9 ≡ 2271 = mapped.here 0 (omega arith) in
     omega arith
 

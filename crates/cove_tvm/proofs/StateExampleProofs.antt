@@ -1,7 +1,7 @@
 -- What the examples of TVMs and vCPUs show.
-use Rattle.std.proofs.Common.{◌≡◌, ◌≢◌, ℕ, zero, suc, ◌+◌, ◌-◌, ◌*◌, ◌/◌, ◌%◌, ◌^◌, ◌<◌, ◌≤◌, ◌⊎◌, Bool, true, false, cond, eqb, ltb, List, [], ◌∷◌, ◌++◌, Contains, Option, None, Some, get_or, get_or-set_other, length, replicate, set, refl, sym, ap, subst, ◌∙◌, true≢false, inl, inr, arith}
+use Rattle.std.proofs.Common.{◌≡◌, ◌≢◌, ℕ, zero, suc, ◌+◌, ◌-◌, ◌/◌, ◌%◌, ◌^◌, ◌<◌, ◌≤◌, true, false, cond, eqb, ltb, List, [], ◌∷◌, Option, None, Some, get_or, get_or-set_other, length, replicate, set, refl, sym, ap, subst, ◌∙◌, true≢false, inl, inr, arith}
 use Rattle.std.proofs.lemmas.List.{get_or-append_right}
-use Rattle.std.proofs.lemmas.Option.{none-some, same_Some}
+use Rattle.std.proofs.lemmas.Option.{same_Some}
 use Rattle.cove_base.specs.InterruptFiles.{InterruptFile}
 use Rattle.cove_base.specs.PageWords.{given, host}
 use Rattle.cove_base.specs.Places.{all_words, hart_word, table_word}
@@ -12,9 +12,8 @@ use Rattle.cove_base.specs.declared.numbers.Role.TheVariants.{Root, State, Table
 use Rattle.cove_base.specs.declared.registers.Regs.{Regs}
 use Rattle.cove_base.proofs.TreeLemmas.{link-slot}
 use Rattle.cove_imsic.specs.FileTables.{FileTable}
-use Rattle.cove_model.proofs.LeafWords.{given_host, given_role}
+use Rattle.cove_model.proofs.LeafWords.{given_host}
 use Rattle.cove_model.proofs.Lists.{replicate_zero}
-use Rattle.cove_model.specs.Owners.{has}
 use Rattle.cove_model.specs.Sound.{Within}
 use Rattle.cove_model.specs.States.{Seat, new_cpu}
 use Rattle.cove_model.specs.Tvms.{Begun, NotBegun, new_tvm}
@@ -25,7 +24,7 @@ use Rattle.cove_tvm.specs.Entered.{WaitsSince, entered_below, is_entered_below}
 use Rattle.cove_tvm.specs.Examples.{begun, two_inside}
 use Rattle.cove_tvm.specs.LeafStands.{BlockedStands}
 use Rattle.cove_tvm.specs.StateExamples.{as_second, begun_words, nowhere, on_vcpu, to_second, two_files}
-use Rattle.cove_tvm.specs.TvmStands.{IsFoundAs, LiveStands}
+use Rattle.cove_tvm.specs.TvmStands.{LiveStands}
 use Rattle.cove_tvm.specs.TvmTables.{IsNewTvm}
 use Rattle.cove_tvm.specs.VcpuStands.{BindingStands, RunStands, UnbindingStands}
 use Rattle.cove_tvm.specs.declared.vcpus.RunState.TheVariants.{Ready, Running}

@@ -9,6 +9,7 @@ pub mod GroundLaws
 pub mod KeptOwn
 pub mod LeafStands
 pub mod Leaves
+pub mod LifeExamples
 pub mod Lives
 pub mod MappedRuns
 pub mod MissingTables

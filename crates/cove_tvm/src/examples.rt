@@ -1,10 +1,12 @@
 //! Worked examples, which the checker computes: what each definition of this crate says yes to, and what it says no to.
 
-ghost use Rattle.std.specs.Prelude.{◌≡◌, ◌+◌, ◌<◌, ℕ, List, [], ◌∷◌, Some, None, false, true, slice_index};
+ghost use Rattle.std.specs.Prelude.{◌≡◌, ◌+◌, ◌<◌, ℕ, List, [], ◌∷◌, Some, None, false, true, slice_index, slice_set};
 ghost use Rattle.cove_base.specs.PageWords.{given, released};
+ghost use Rattle.cove_base.specs.Places.{epoch_word, tvm_word};
 ghost use Rattle.cove_base.specs.Tables.{present};
 ghost use Rattle.cove_base.specs.declared.numbers.Role.TheVariants.{Root, Table};
 ghost use Rattle.cove_model.specs.States.{State};
+ghost use Rattle.cove_tvm.specs.CallExamples.{small_words};
 ghost use Rattle.cove_tvm.specs.Entered.{WaitsSince, entered_below};
 ghost use Rattle.cove_tvm.specs.Examples.{just, nine_free, own_five, two_inside};
 ghost use Rattle.cove_tvm.specs.GroundLaws.{KeepsTvms};
@@ -13,7 +15,7 @@ ghost use Rattle.cove_tvm.specs.LeafStands.{LeafStands};
 ghost use Rattle.cove_tvm.specs.Leaves.{LeavesEveryTvm, LeavesTvm};
 ghost use Rattle.cove_tvm.specs.NewTvms.{MayCreate, create_stores};
 ghost use Rattle.cove_tvm.specs.NewVcpus.{AddsCpu, IsNewCpu};
-ghost use Rattle.cove_tvm.specs.OneTvm.{KeepsMappings, LeavesOthers};
+ghost use Rattle.cove_tvm.specs.OneTvm.{KeepsMappings, LeavesOthers, StandsAt};
 ghost use Rattle.cove_tvm.specs.Stands.{Stands};
 ghost use Rattle.cove_tvm.specs.StateExamples.{on_vcpu};
 ghost use Rattle.cove_tvm.specs.TvmTables.{live_at};
@@ -56,6 +58,14 @@ pub fn worked_leaving()
         → LeavesTvm 1 1 old new 1 → ⊥ }
 {}
 
+/// A store of the epoch leaves every TVM; a store of a TVM's number leaves the others alone.
+pub fn worked_storing()
+    ensures epoch { (words : List ℕ) (n : ℕ) → LeavesEveryTvm 1 1 words (slice_set words (epoch_word 1) n) }
+    ensures a_number { LeavesEveryTvm 1 1 small_words (slice_set small_words (tvm_word 1 1 2) 5) → ⊥ }
+    ensures other_number { (words : List ℕ) (n : ℕ) → LeavesTvm 1 1 words (slice_set words (tvm_word 1 1 2) n) 1 }
+    ensures own_number { LeavesTvm 1 1 small_words (slice_set small_words (tvm_word 1 1 2) 5) 2 → ⊥ }
+{}
+
 /// Words keep a TVM where a free page becomes a table page of its own, but not where it becomes one of its root's.
 pub fn worked_keeping()
     ensures same { (words : List ℕ) (t : ℕ) → KeepsTvm 1 1 words words t }
@@ -81,13 +91,17 @@ pub fn worked_changes()
     ensures unmapped { KeepsMappings (λ tvm. record tvm { mappings = [] }) → ⊥ }
 {}
 
-/// A call on TVM 1 that changes nothing leaves the others; one that takes TVM 2 away, or moves a hart, doesn't.
+/// A call on TVM 1 that changes nothing leaves the others, and what stands for all stands for its part; one that takes TVM 2
+/// away, moves a hart or leaves a kick doesn't.
 pub fn worked_others()
     ensures same { (words : List ℕ) (G : Ground) (S : State) → LeavesOthers 1 words words G G.tvms S S }
     ensures taken { (words : List ℕ) (G : Ground) (S : State) (tvm : Tvm) → live_at G.tvms 2 ≡ Some tvm
         → LeavesOthers 1 words words G (record G.tvms { tvms = [] }) S S → ⊥ }
     ensures moved { (words : List ℕ) (G : Ground)
         → LeavesOthers 1 words words G G.tvms nine_free (record nine_free { seats = on_vcpu 0 }) → ⊥ }
+    ensures parts { (words : List ℕ) (G : Ground) (S : State) → Stands words G S → StandsAt 1 words G G.memory G.tvms S }
+    ensures kicked { (words : List ℕ) (G : Ground)
+        → 0 < G.harts → StandsAt 1 words (record G { kicked = 1 }) G.memory G.tvms nine_free → ⊥ }
 {}
 
 /// A ground with a live TVM stands for no state without one.

@@ -14,6 +14,7 @@ mod examples;
 mod ground;
 mod host_side;
 mod laws;
+mod life_examples;
 mod machines;
 mod pool_laws;
 mod run_examples;
@@ -33,16 +34,17 @@ pub use call_examples::{
 pub use destroy_laws::destroy_law;
 pub use examples::{
     worked_adding, worked_changes, worked_creation, worked_harts, worked_keeping, worked_leaves,
-    worked_leaving, worked_numbers, worked_others, worked_standing,
+    worked_leaving, worked_numbers, worked_others, worked_standing, worked_storing,
 };
 pub use ground::Ground;
 pub use host_side::HostSide;
 pub use laws::{building_law, creation_law, frame_law, opening_law};
+pub use life_examples::{worked_gifts, worked_growth, worked_life};
 pub use machines::{Life, Tvm};
 pub use pool_laws::tables_law;
 pub use run_examples::{
-    worked_filling, worked_mapping, worked_mappings, worked_pools, worked_raising,
-    worked_runs_to_map,
+    worked_filling, worked_mapping, worked_mappings, worked_next_mapping, worked_pools,
+    worked_raising, worked_runs_to_map,
 };
 pub use run_laws::run_law;
 pub use state_examples::{

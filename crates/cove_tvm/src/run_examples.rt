@@ -6,7 +6,7 @@ ghost use Rattle.cove_base.specs.Stores.{stored};
 ghost use Rattle.cove_base.specs.TableWords.{private_leaf};
 ghost use Rattle.cove_model.specs.Tvms.{new_tvm};
 ghost use Rattle.cove_tvm.specs.Examples.{own_five};
-ghost use Rattle.cove_tvm.specs.MappedRuns.{AreMapped, MayMap};
+ghost use Rattle.cove_tvm.specs.MappedRuns.{AreMapped, MapsNext, MayMap};
 ghost use Rattle.cove_tvm.specs.PrivateRuns.{FillsFrames};
 ghost use Rattle.cove_tvm.specs.RunExamples.{mappable, nine_linked, nine_mapped};
 ghost use Rattle.cove_tvm.specs.SharedRuns.{RaisesCounts};
@@ -52,6 +52,14 @@ pub fn worked_mapping()
     ensures second_leaf { AreMapped 8 1 1 4 9 2 1 1 false mappable (0 ∷ 1 ∷ []) (stored nine_mapped ((18, private_leaf 2) ∷ [])) [] → ⊥ }
     ensures page_word { AreMapped 8 1 1 4 9 2 1 1 false mappable (0 ∷ 1 ∷ []) (stored nine_mapped ((3, host 2) ∷ [])) [] → ⊥ }
     ensures spare_yet { AreMapped 8 1 1 4 9 2 1 1 false mappable (0 ∷ 1 ∷ []) nine_mapped (0 ∷ []) → ⊥ }
+{}
+
+/// The stores of a mapping link its way, write its leaf and take the pages from the pool; without the leaf, or with a page that
+/// stays in the pool, they are another's.
+pub fn worked_next_mapping()
+    ensures next { MapsNext 8 4 9 2 0 false mappable (0 ∷ 1 ∷ []) nine_mapped [] }
+    ensures no_leaf { MapsNext 8 4 9 2 0 false mappable (0 ∷ 1 ∷ []) nine_linked [] → ⊥ }
+    ensures spare_yet { MapsNext 8 4 9 2 0 false mappable (0 ∷ 1 ∷ []) nine_mapped (0 ∷ []) → ⊥ }
 {}
 
 /// A TVM without a mapping has tables without a leaf, and each of its table pages is in use or spare.

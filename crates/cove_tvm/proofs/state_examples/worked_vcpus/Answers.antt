@@ -1,4 +1,4 @@
-use Rattle.std.proofs.Common.{◌≡◌, ℕ, Bool, true, false, List, length, refl, ap, true≢false, arith}
+use Rattle.std.proofs.Common.{◌≡◌, ℕ, Bool, true, false, length, refl, ap, true≢false, arith}
 use Rattle.cove_base.specs.InterruptFiles.{InterruptFile}
 use Rattle.cove_tvm.specs.declared.vcpus.RunState.{RunState}
 use Rattle.cove_tvm.specs.declared.vcpus.RunState.TheVariants.{Ready, Running, Stopped}
