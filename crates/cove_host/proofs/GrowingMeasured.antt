@@ -97,7 +97,7 @@ module _ (words : List ℕ) (G : Ground) (ready : IsReady words G) (src dst n gp
       let to = may.inside in
       elim (cases_lt (dst / 4096) (src / 4096 + n)) [
         | inl under ↦ elim (cases_lt (src / 4096) (dst / 4096 + n)) [
-          | inl over ↦ absurd (both ready.state one.hosts may.free (omega (arith, long, inside)) (omega (arith, long, to)) under over)
+          | inl over ↦ absurd (both ready.state one.hosts may.owners (omega (arith, long, inside)) (omega (arith, long, to)) under over)
           | inr behind ↦ inr (omega (arith, behind))
         ]
         | inr before ↦ inl (omega (arith, before))

@@ -89,7 +89,7 @@ module _ (words : List ℕ) (G : Ground) (ready : IsReady words G) (base n gpa :
               live = both.2;
               found = both.3;
               inside = subst (λ m. base / 4096 + n ≤ m) long (ltb-false (length S.pages) (base / 4096 + n) inside);
-              hosts = not-false (every is_host (base / 4096) n S.pages) hosts;
+              owners = not-false (every is_host (base / 4096) n S.pages) hosts;
               near = near;
               unmapped = ap (λ x. list_any (λ g. is_some (mapping_of (unwrap_or x (new_tvm (suc k))) g)) (guests gpa n)) (sym both.3) ∙ none;
               enough = omega (arith, missing, same);
@@ -121,7 +121,7 @@ module _ (words : List ℕ) (G : Ground) (ready : IsReady words G) (base n gpa :
       let may = (told_shares t told ready.state ready.stands).may in
       let inside = may.inside in
       let long = ready.stands.words_stand.stands.owners.page_count in
-      let owner = host_page (page_at ready.state.pages p) (every_at is_host (base / 4096) n ready.state.pages may.hosts p low high (omega arith)) in (
+      let owner = host_page (page_at ready.state.pages p) (every_at is_host (base / 4096) n ready.state.pages may.owners p low high (omega arith)) in (
         maps_of ready.state p,
         few_maps words G ready p (omega arith),
         subst (PageStands G.harts (epoch_in G.pages words) (answered_in G.pages words) (maps_of ready.state p) (get_or words p 0)) owner.1

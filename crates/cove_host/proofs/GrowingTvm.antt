@@ -86,7 +86,7 @@ module _ (words : List ℕ) (G : Ground) (ready : IsReady words G) (base n gpa :
               live = both.2;
               found = both.3;
               inside = subst (λ m. base / 4096 + n ≤ m) long (ltb-false (length S.pages) (base / 4096 + n) inside);
-              free = not-false (every is_free (base / 4096) n S.pages) free;
+              owners = not-false (every is_free (base / 4096) n S.pages) free;
               near = near;
               unmapped = ap (λ x. list_any (λ g. is_some (mapping_of (unwrap_or x (new_tvm (suc k))) g)) (guests gpa n)) (sym both.3) ∙ none;
               enough = omega (arith, missing, same);

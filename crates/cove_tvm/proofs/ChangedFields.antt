@@ -1,5 +1,5 @@
 -- Words and ground stand after fields of one TVM changed.
-use Rattle.std.proofs.Common.{◌≡◌, ℕ, suc, ◌==◌, ◌∙◌, Bool, true, false, cond, eqb, List, [], count_by, get_or, length-set, Option, Some, None, option_map, refl, sym, ap, subst, inl, inr, arith}
+use Rattle.std.proofs.Common.{◌≡◌, ℕ, suc, ◌==◌, ◌∙◌, Bool, true, false, cond, eqb, List, [], count_by, get_or, Option, Some, None, option_map, refl, sym, ap, subst, inl, inr}
 use Rattle.std.proofs.Math.Path.{fun_ext}
 use Rattle.std.proofs.lemmas.Bool.{cases_eq}
 use Rattle.std.proofs.lemmas.List.Folds.{flat_map-map}
@@ -12,14 +12,9 @@ use Rattle.cove_model.specs.States.{State, find_tvm, on_tvm, shown_page}
 use Rattle.cove_model.specs.Tvms.{Tvm as ModelTvm, new_tvm}
 use Rattle.cove_model.specs.WordLaws.{Stand}
 use Rattle.cove_model.specs.WordsStand.{FrameStands, FramesStand, PageStands, answered_in, epoch_in, maps_of, words_at}
-use Rattle.cove_tvm.proofs.KeptGround.{live_made}
-use Rattle.cove_tvm.proofs.LiveTvms.{written_elsewhere, written_here}
-use Rattle.cove_tvm.proofs.OneTvmProofs.{one_tvm_stands}
+use Rattle.cove_tvm.proofs.OneTvmProofs.{live_tvm_stands}
 use Rattle.cove_tvm.specs.Leaves.{LeavesTvm}
 use Rattle.cove_tvm.specs.OneTvm.{FieldsChangeStand, KeepsMappings}
-use Rattle.cove_tvm.specs.TvmLends.{with_tvm}
-use Rattle.cove_tvm.specs.TvmStands.{TvmStands}
-use Rattle.cove_tvm.specs.TvmTables.{live_at}
 
 -- the same words leave every TVM
 pub leaves_same : (pages harts t : ℕ) (words : List ℕ) → LeavesTvm pages harts words words t
@@ -103,36 +98,6 @@ module _ (S : State) (t : ℕ) (how : ModelTvm → ModelTvm) (keeps : KeepsMappi
 
 pub fields_change_stand : FieldsChangeStand
 fields_change_stand k words G S how old new v stands keeps live found stays own =
-    one_tvm_stands (suc k) words words G G.memory (with_tvm G.tvms k new) S (on_tvm (suc k) how S) stands
-    (record {
-      words_leave = λ u other few. leaves_same G.pages G.harts u words;
-      same_live = λ u other. written_elsewhere G.tvms k new u other;
-      same_state = λ u other. at_alter_other (λ tvm. tvm.number) u (suc k) how keeps.number other S.tvms;
-      seats = refl;
-    })
-    (record {
-      words_stand = words_stand_still S (suc k) how keeps G.pages G.harts words stands.words_stand;
-      frames_stand = frames_changed S (suc k) how keeps G.memory stands.frames;
-      board = record {
-        key = stands.board.key;
-        kicked = stands.board.kicked;
-        filecount = stands.board.filecount;
-        file_harts = stands.board.file_harts;
-        file_count = stands.board.file_count;
-        tvm_pages = stands.board.tvm_pages;
-        made = length-set G.tvms.tvms k new ∙ stands.board.made;
-        few = stands.board.few;
-      };
-      own =
-          subst (λ one. TvmStands G.pages G.harts words (suc k) S.seats G.files one (find_tvm (on_tvm (suc k) how S) (suc k))) (sym live_is)
-          (subst (TvmStands G.pages G.harts words (suc k) S.seats G.files (Some new)) (sym found_is) own);
-      counted = λ p on. stands.counted p on ∙ sym (maps_changed S (suc k) how keeps p);
-    })
-  where
-    live_is : live_at (with_tvm G.tvms k new) (suc k) ≡ Some new
-    live_is =
-        let low = live_made G.tvms (suc k) old live in
-        written_here G.tvms k new (omega arith) ∙ ap (λ b. cond b None (Some new)) stays
-
-    found_is : find_tvm (on_tvm (suc k) how S) (suc k) ≡ Some (how v)
-    found_is = at_alter_same (λ tvm. tvm.number) (suc k) how keeps.number S.tvms ∙ ap (option_map how) found
+    live_tvm_stands k words words G G.memory S S.pages old new stands live how v found stays keeps.number (λ u other few. leaves_same G.pages G.harts u words)
+    (words_stand_still S (suc k) how keeps G.pages G.harts words stands.words_stand) (frames_changed S (suc k) how keeps G.memory stands.frames)
+    (λ p on. stands.counted p on ∙ sym (maps_changed S (suc k) how keeps p)) own

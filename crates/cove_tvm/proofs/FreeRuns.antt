@@ -1,5 +1,5 @@
 -- A run of free pages that is given to a TVM: its stores are lawful and keep that TVM, and words and ground stand where it does.
-use Rattle.std.proofs.Common.{◌≡◌, ◌≢◌, ℕ, suc, ◌+◌, ◌*◌, ◌/◌, ◌%◌, ◌^◌, ◌<◌, ◌≤◌, ◌∙◌, false, cond, eqb, ltb, List, [], get_or, length, length-set, Some, None, option_map, refl, sym, ap, subst, inl, inr, arith}
+use Rattle.std.proofs.Common.{◌≡◌, ◌≢◌, ℕ, suc, ◌+◌, ◌*◌, ◌/◌, ◌%◌, ◌^◌, ◌<◌, ◌≤◌, ◌∙◌, false, cond, eqb, ltb, List, [], get_or, length, refl, sym, ap, subst, inl, inr, arith}
 use Rattle.cove_base.proofs.StoreLemmas.{get_or-fills, get_or-fills_other, length-stored}
 use Rattle.cove_base.specs.PageWords.{given, role_number}
 use Rattle.cove_base.specs.Places.{hart_word, table_word, tvm_word}
@@ -7,14 +7,13 @@ use Rattle.cove_base.specs.Stores.{AllAllowed, fills, stored}
 use Rattle.cove_base.specs.declared.limits.TheConstants.{TVM_LIMIT}
 use Rattle.cove_base.specs.declared.numbers.Role.{Role}
 use Rattle.cove_base.specs.declared.numbers.Role.TheVariants.{Root}
-use Rattle.cove_model.proofs.KeyedLemmas.{at_alter_other, at_alter_same}
 use Rattle.cove_model.proofs.LeafWords.{given_number, given_role}
 use Rattle.cove_model.proofs.Runs.{change_cases, every_at, length_change, run_cases}
 use Rattle.cove_model.proofs.StandLemmas.{filled_stand, free_page}
 use Rattle.cove_model.specs.LawfulStores.{IsLawful}
 use Rattle.cove_model.specs.Owners.{Converting, Free, Given, Host, Owner, Purpose, change, is_free, page_at}
 use Rattle.cove_model.specs.Pages.{given_to}
-use Rattle.cove_model.specs.States.{State, find_tvm, on_tvm}
+use Rattle.cove_model.specs.States.{State, on_tvm}
 use Rattle.cove_model.specs.Tvms.{Tvm as ModelTvm}
 use Rattle.cove_model.specs.WordLaws.{Stand}
 use Rattle.cove_model.specs.WordsStand.{FrameStands, FramesStand, GivenStands, PageStands, answered_in, epoch_in, is_table, maps_of, role_of}
@@ -22,8 +21,7 @@ use Rattle.cove_tvm.proofs.ChangedFields.{frames_changed, maps_changed, words_st
 use Rattle.cove_tvm.proofs.GivenPages.{run_leaves}
 use Rattle.cove_tvm.proofs.GivesLawful.{gives_as}
 use Rattle.cove_tvm.proofs.KeptGround.{live_made, shared_kept}
-use Rattle.cove_tvm.proofs.LiveTvms.{written_elsewhere, written_here}
-use Rattle.cove_tvm.proofs.OneTvmProofs.{one_tvm_stands}
+use Rattle.cove_tvm.proofs.OneTvmProofs.{live_tvm_stands}
 use Rattle.cove_tvm.proofs.OwnerCalls.{free_not_given}
 use Rattle.cove_tvm.specs.GivenRuns.{MayGive}
 use Rattle.cove_tvm.specs.KeptOwn.{KeepsTvm}
@@ -32,8 +30,7 @@ use Rattle.cove_tvm.specs.Lives.{is_gone}
 use Rattle.cove_tvm.specs.OneTvm.{KeepsMappings}
 use Rattle.cove_tvm.specs.Stands.{Stands}
 use Rattle.cove_tvm.specs.TvmLends.{with_tvm}
-use Rattle.cove_tvm.specs.TvmStands.{LiveStands, TvmStands}
-use Rattle.cove_tvm.specs.TvmTables.{live_at}
+use Rattle.cove_tvm.specs.TvmStands.{LiveStands}
 use Rattle.cove_tvm.specs.declared.ground.Ground.{Ground}
 use Rattle.cove_tvm.specs.declared.machines.Tvm.{Tvm}
 
@@ -99,7 +96,7 @@ module _ (words : List ℕ) (G : Ground) (S : State) (k base n : ℕ) (purpose :
   run_word p low high = let size = size_is in get_or-fills words first n word p low high (omega arith)
 
   -- every other TVM is left
-  run_leaves_others : (u : ℕ) → u ≢ suc k → u ≤ TVM_LIMIT → LeavesTvm G.pages G.harts words added u
+  pub run_leaves_others : (u : ℕ) → u ≢ suc k → u ≤ TVM_LIMIT → LeavesTvm G.pages G.harts words added u
   run_leaves_others u other few =
       run_leaves G.pages G.harts u words first n word few may.inside size_is (λ p role low high. free_word p u role low high)
       (λ role e. other (sym (given_number (suc k) u (role_of purpose) role e)))
@@ -131,41 +128,12 @@ module _ (words : List ℕ) (G : Ground) (S : State) (k base n : ℕ) (purpose :
       → is_gone new.life ≡ false → LiveStands G.pages G.harts added (suc k) S.seats G.files new (how model)
       → Stands added (record G { tvms = with_tvm G.tvms k new }) (on_tvm (suc k) how giving)
   run_given how new any keeps stays own =
-      one_tvm_stands (suc k) words added G G.memory (with_tvm G.tvms k new) S (on_tvm (suc k) how giving) may.stands
-      (record {
-        words_leave = run_leaves_others;
-        same_live = λ u other. written_elsewhere G.tvms k new u other;
-        same_state = λ u other. at_alter_other (λ one. one.number) u (suc k) how keeps.number other S.tvms;
-        seats = refl;
-      })
-      (record {
-        words_stand = words_stand_still giving (suc k) how keeps G.pages G.harts added run_stands;
-        frames_stand = frames_changed giving (suc k) how keeps G.memory (run_frames any);
-        board = record {
-          key = may.stands.board.key;
-          kicked = may.stands.board.kicked;
-          filecount = may.stands.board.filecount;
-          file_harts = may.stands.board.file_harts;
-          file_count = may.stands.board.file_count;
-          tvm_pages = may.stands.board.tvm_pages;
-          made = length-set G.tvms.tvms k new ∙ may.stands.board.made;
-          few = may.stands.board.few;
-        };
-        own =
-            subst (λ one. TvmStands G.pages G.harts added (suc k) S.seats G.files one (find_tvm (on_tvm (suc k) how giving) (suc k))) (sym live_is)
-            (subst (TvmStands G.pages G.harts added (suc k) S.seats G.files (Some new)) (sym found_is) own);
-        counted = λ p on.
-            shared_kept G.pages words added p (length-stored words (fills first n word)) (λ at low high. run_behind at low)
-            ∙ may.stands.counted p on ∙ sym (maps_changed giving (suc k) how keeps p);
-      })
-    where
-      live_is : live_at (with_tvm G.tvms k new) (suc k) ≡ Some new
-      live_is =
-          let low = live_made G.tvms (suc k) tvm may.live in
-          written_here G.tvms k new (omega arith) ∙ ap (λ b. cond b None (Some new)) stays
-
-      found_is : find_tvm (on_tvm (suc k) how giving) (suc k) ≡ Some (how model)
-      found_is = at_alter_same (λ one. one.number) (suc k) how keeps.number S.tvms ∙ ap (option_map how) may.found
+      live_tvm_stands k words added G G.memory S giving.pages tvm new may.stands may.live how model may.found stays keeps.number run_leaves_others
+      (words_stand_still giving (suc k) how keeps G.pages G.harts added run_stands) (frames_changed giving (suc k) how keeps G.memory (run_frames any))
+      (λ p on.
+      shared_kept G.pages words added p (length-stored words (fills first n word)) (λ at low high. run_behind at low)
+      ∙ may.stands.counted p on ∙ sym (maps_changed giving (suc k) how keeps p))
+      own
 
   module _ (other : role_number (role_of purpose) ≢ role_number Root) where
     -- the stores are lawful, where the pages become no root

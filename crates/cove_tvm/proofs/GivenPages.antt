@@ -1,5 +1,5 @@
 -- Page words that give a page to a TVM, and runs of pages that are given.
-use Rattle.std.proofs.Common.{◌≡◌, ◌≢◌, ℕ, ◌+◌, ◌*◌, ◌/◌, ◌%◌, ◌^◌, ◌<◌, ◌≤◌, ◌∙◌, Bool, true, false, cond, eqb, eqb-true, ltb, List, get_or, length, Option, Some, None, refl, sym, ap, subst, inl, inr, arith}
+use Rattle.std.proofs.Common.{◌≡◌, ◌≢◌, ℕ, ◌+◌, ◌*◌, ◌/◌, ◌%◌, ◌^◌, ◌<◌, ◌≤◌, ◌⊎◌, ◌∙◌, Bool, true, false, cond, eqb, eqb-true, ltb, List, get_or, length, Option, Some, None, refl, sym, ap, subst, inl, inr, arith}
 use Rattle.std.proofs.lemmas.Bool.{false≢true}
 use Rattle.std.proofs.lemmas.Option.{none-some}
 use Rattle.cove_base.proofs.StoreLemmas.{get_or-fills, get_or-fills_other, length-stored}
@@ -36,27 +36,33 @@ given_owner harts epoch answered maps word t role Free (inr e) is = absurd (let 
 given_owner harts epoch answered maps word t role (Given u purpose) stands is =
     (purpose, ap (λ k. Given k purpose) (given_number u t (role_of purpose) role (sym stands.2 ∙ is)))
 
--- a run of pages that are not a TVM's is filled with a word that doesn't give them to it
+-- a run of pages that are not a TVM's changes, and they do not become it
+pub others_leave : (pages harts t : ℕ) (words new : List ℕ) (first n : ℕ) → t ≤ TVM_LIMIT → first + n ≤ pages → length new ≡ length words
+    → ((place : ℕ) → (place < first) ⊎ (first + n ≤ place) → get_or new place 0 ≡ get_or words place 0)
+    → ((p : ℕ) (role : Role) → first ≤ p → p < first + n → get_or words p 0 ≢ given t role)
+    → ((p : ℕ) (role : Role) → first ≤ p → p < first + n → get_or new p 0 ≢ given t role)
+    → LeavesTvm pages harts words new t
+others_leave pages harts t words new first n few inside size others before after = record {
+  size = size;
+  page = λ p role on. elim (run_cases first n p) [
+    | inl run ↦ (λ gives. absurd (after p role run.0 run.1 gives), λ gives. absurd (before p role run.0 run.1 gives))
+    | inr out ↦ (λ gives. sym (others p out) ∙ gives, λ gives. others p out ∙ gives)
+  ];
+  table = λ p i on low own. others (table_word pages p i) (inr (omega arith));
+  number = others (tvm_word pages harts t) (inr (omega arith));
+  inside = λ number hart on.
+      ap (λ w. cond (eqb (w / 2 ^ 32) t) (ltb (w % 2 ^ 32) number) false) (others (hart_word pages harts hart) (inr (omega arith)));
+}
+
+-- they are filled with a word that doesn't give them to it
 pub run_leaves : (pages harts t : ℕ) (words : List ℕ) (first n word : ℕ) → t ≤ TVM_LIMIT → first + n ≤ pages → 513 * pages ≤ length words
     → ((p : ℕ) (role : Role) → first ≤ p → p < first + n → get_or words p 0 ≢ given t role)
     → ((role : Role) → word ≢ given t role)
     → LeavesTvm pages harts words (stored words (fills first n word)) t
-run_leaves pages harts t words first n word few inside size before after = record {
-  size = length-stored words (fills first n word);
-  page = λ p role on. elim (run_cases first n p) [
-    | inl run ↦
-        let is = get_or-fills words first n word p run.0 run.1 (omega arith) in
-        (λ gives. absurd (after role (sym is ∙ gives)), λ gives. absurd (before p role run.0 run.1 gives))
-    | inr out ↦
-        let same = get_or-fills_other words first n word p out in
-        (λ gives. sym same ∙ gives, λ gives. same ∙ gives)
-  ];
-  table = λ p i on low own. get_or-fills_other words first n word (table_word pages p i) (inr (omega arith));
-  number = get_or-fills_other words first n word (tvm_word pages harts t) (inr (omega arith));
-  inside = λ number hart on.
-      ap (λ w. cond (eqb (w / 2 ^ 32) t) (ltb (w % 2 ^ 32) number) false)
-      (get_or-fills_other words first n word (hart_word pages harts hart) (inr (omega arith)));
-}
+run_leaves pages harts t words first n word few inside size before after =
+    others_leave pages harts t words (stored words (fills first n word)) first n few inside (length-stored words (fills first n word))
+    (λ place out. get_or-fills_other words first n word place out) before
+    (λ p role low high is. after role (sym (get_or-fills words first n word p low high (omega arith)) ∙ is))
 
 -- words that leave a TVM, and then words that leave it
 pub leaves_twice : (pages harts t : ℕ) (old mid new : List ℕ) → LeavesTvm pages harts old mid t → LeavesTvm pages harts mid new t → LeavesTvm pages harts old new t

@@ -29,9 +29,7 @@ use Rattle.cove_model.specs.WordsStand.{FrameStands, FramesStand, PageStands, an
 use Rattle.cove_model.specs.TableLaw.{shared_leaves}
 use Rattle.cove_tvm.proofs.BuiltRegions.{live_stands}
 use Rattle.cove_tvm.proofs.GoneShares.{gone_maps, gone_shares, none_found}
-use Rattle.cove_tvm.proofs.KeptGround.{live_made}
-use Rattle.cove_tvm.proofs.LiveTvms.{written_elsewhere, written_here}
-use Rattle.cove_tvm.proofs.OneTvmProofs.{one_tvm_stands}
+use Rattle.cove_tvm.proofs.OneTvmProofs.{written_stands}
 use Rattle.cove_tvm.specs.DestroyedTvms.{DestroyStands, Destroys}
 use Rattle.cove_tvm.specs.Leaves.{LeavesTvm}
 use Rattle.cove_tvm.specs.Lives.{is_gone}
@@ -258,38 +256,11 @@ module _ (k : ℕ) (words new : List ℕ) (G : Ground) (S : MonitorState) (old g
 
   -- ---- all of it
 
-  none_live : live_at (with_tvm G.tvms k gone) (suc k) ≡ None
-  none_live =
-      let low = live_made G.tvms (suc k) old live in
-      written_here G.tvms k gone (omega arith) ∙ ap (λ b. cond b None (Some gone)) is_over
-
   gone_stands : (hart : ℕ) → Stands new (record G { tvms = with_tvm G.tvms k gone }) (rule S hart (Destroy (suc k))).outcome.state
   gone_stands hart =
-      one_tvm_stands (suc k) words new G G.memory (with_tvm G.tvms k gone) S after stands
-      (record {
-        words_leave = leaves_other;
-        same_live = λ u other. written_elsewhere G.tvms k gone u other;
-        same_state = found_still;
-        seats = refl;
-      })
-      (record {
-        words_stand = words_after;
-        frames_stand = frames_after;
-        board = record {
-          key = stands.board.key;
-          kicked = stands.board.kicked;
-          filecount = stands.board.filecount;
-          file_harts = stands.board.file_harts;
-          file_count = stands.board.file_count;
-          tvm_pages = stands.board.tvm_pages;
-          made = length-set G.tvms.tvms k gone ∙ stands.board.made;
-          few = stands.board.few;
-        };
-        own =
-            subst (λ one. TvmStands G.pages G.harts new (suc k) S.seats G.files one (find_tvm after (suc k))) (sym none_live)
-            (subst (TvmStands G.pages G.harts new (suc k) S.seats G.files None) (sym (none_found (suc k) S.tvms)) tt);
-        counted = counted_after;
-      })
+      written_stands k words new G G.memory S after.pages old gone stands live after.tvms found_still leaves_other words_after frames_after counted_after
+      (subst (λ b. TvmStands G.pages G.harts new (suc k) S.seats G.files (cond b None (Some gone)) (find_tvm after (suc k))) (sym is_over)
+      (subst (TvmStands G.pages G.harts new (suc k) S.seats G.files None) (sym (none_found (suc k) S.tvms)) tt))
 
 pub destroy_stands : DestroyStands
 destroy_stands k words new G S hart old gone model stands orderly live found destroys is_over =

@@ -29,6 +29,7 @@ pub mod PrivateRuns
 pub mod RunLives
 pub mod RunMappings
 pub mod RunPages
+pub mod RunsStand
 pub mod SharedCounts
 pub mod SharedRuns
 pub mod TablesMissing

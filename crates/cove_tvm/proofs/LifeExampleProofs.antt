@@ -160,7 +160,7 @@ module _ (tables : Tables) (root : tables.root.0 ≡ 4) (pages : tables.pages �
     live = refl;
     found = refl;
     inside = omega arith;
-    free = refl;
+    owners = refl;
     near = omega arith;
     unmapped = refl;
     enough = refl;
@@ -173,7 +173,7 @@ module _ (tables : Tables) (root : tables.root.0 ≡ 4) (pages : tables.pages �
     live = refl;
     found = refl;
     inside = omega arith;
-    hosts = refl;
+    owners = refl;
     near = omega arith;
     unmapped = refl;
     enough = refl;
@@ -207,7 +207,7 @@ module _ (tables : Tables) where
   no_tables may = let none : ◌≡◌ {A = ℕ} 2 0 = may.enough in omega arith
 
   pub host_page_as_own : MayGrow supplied_words (supplied_ground tables) supplied 0 0x3000 1 0x9000 (supplied_tvm tables) supplied_model → ⊥
-  host_page_as_own may = true≢false (sym may.free)
+  host_page_as_own may = true≢false (sym may.owners)
 
   pub free_page : MayShare supplied_words (supplied_ground tables) supplied 0 0x2000 1 0x9000 (supplied_tvm tables) supplied_model → ⊥
-  free_page may = true≢false (sym may.hosts)
+  free_page may = true≢false (sym may.owners)

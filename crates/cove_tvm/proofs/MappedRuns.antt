@@ -1,7 +1,6 @@
 -- A run of guest pages is mapped, one after another.
-use Rattle.std.proofs.Common.{◌≡◌, ◌≢◌, ℕ, suc, ◌+◌, ◌-◌, ◌*◌, ◌/◌, ◌^◌, ◌<◌, ◌≤◌, ◌∙◌, Bool, true, false, List, [], ◌++◌, get_or, length, add-one, refl, sym, ap, subst, inl, inr, arith}
+use Rattle.std.proofs.Common.{◌≡◌, ◌≢◌, ℕ, suc, ◌+◌, ◌-◌, ◌*◌, ◌/◌, ◌^◌, ◌<◌, ◌≤◌, ◌∙◌, Bool, true, false, List, [], get_or, length, add-one, refl, sym, ap, subst, inl, inr, arith}
 use Rattle.std.proofs.lemmas.Bool.{cases_eq}
-use Rattle.cove_base.proofs.StoreLemmas.{stored-append}
 use Rattle.cove_base.specs.Places.{all_words, table_word}
 use Rattle.cove_base.specs.Stores.{AllAllowed, stored}
 use Rattle.cove_base.specs.Tables.{Slot, InRoot, InMiddle, IsLinkSlot, entry_at, leaf_at, present}
@@ -13,7 +12,7 @@ use Rattle.cove_stage2.proofs.RestLemmas.{next-some}
 use Rattle.cove_stage2.specs.Lacked.{tables_lacked}
 use Rattle.cove_stage2.specs.LawfulTables.{AreGiven}
 use Rattle.cove_stage2.specs.MapStores.{map_stores, pool_left}
-use Rattle.cove_tvm.proofs.GivesLawful.{allowed_append}
+use Rattle.cove_tvm.proofs.GivesLawful.{lawful_twice}
 use Rattle.cove_tvm.specs.MappedRuns.{AreMapped, MapsNext, MayMap, RunBegins, RunGoesOn}
 
 pub run_begins : RunBegins
@@ -119,13 +118,8 @@ module _ (pages harts t root g p n i : ℕ) (shared : Bool) (old pool words left
 
     lawful_on : (hart : ℕ) (start : List ℕ) → MakesLawful pages harts hart start old new
     lawful_on hart start =
-        let before = done.lawful hart start in
-        let more = map_stores pages root words left (g + i) (present (p + i) shared) in (
-          before.0 ++ more,
-          allowed_append (IsLawful pages harts hart start) old before.0 more before.1
-              (subst (λ ws. AllAllowed (IsLawful pages harts hart start) ws more) before.2 (next_allowed hart start)),
-          next.stores ∙ ap (λ ws. stored ws more) before.2 ∙ sym (stored-append old before.0 more),
-        )
+        lawful_twice pages harts hart start old words new (done.lawful hart start)
+        (map_stores pages root words left (g + i) (present (p + i) shared), next_allowed hart start, next.stores)
 
     pub one_more : AreMapped pages harts t root g p n (suc i) shared old pool new rest
     one_more = record {

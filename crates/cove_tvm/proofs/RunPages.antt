@@ -1,20 +1,13 @@
--- Pages of a run that become the memory of a TVM.
-use Rattle.std.proofs.Common.{◌≡◌, ℕ, zero, suc, ◌+◌, ◌<◌, ◌≤◌, ◌⊎◌, ◌∙◌, true, List, [], ◌∷◌, ◌++◌, drop, get_or, map, set, take, refl, sym, ap, subst, inl, inr, arith, get_or-set_other}
+-- Pages outside of a run of pages that change, and pages that are a TVM's tables.
+use Rattle.std.proofs.Common.{◌≡◌, ℕ, zero, suc, ◌+◌, ◌<◌, ◌≤◌, ◌⊎◌, ◌∙◌, true, List, [], ◌∷◌, ◌++◌, drop, map, take, refl, sym, ap, subst, inl, inr, arith}
 use Rattle.std.specs.List.{enumerate_from}
 use Rattle.cove_base.specs.PageWords.{given, role_number}
-use Rattle.cove_base.specs.Stores.{AllAllowed, fills}
-use Rattle.cove_base.specs.declared.limits.TheConstants.{TVM_LIMIT}
-use Rattle.cove_base.specs.declared.numbers.Role.{Role}
 use Rattle.cove_base.specs.declared.numbers.Role.TheVariants.{Root, Table}
 use Rattle.cove_model.proofs.LeafWords.{given_role}
-use Rattle.cove_model.specs.LawfulStores.{Gives, IsFreeIn, IsLawful}
 use Rattle.cove_model.specs.Owners.{AsRoot, AsState, AsTable, AsVcpu, AsData, Given, Owner, Purpose, page_at}
 use Rattle.cove_model.specs.Pages.{change_each}
 use Rattle.cove_model.specs.WordsStand.{PageStands, is_table, role_of}
-use Rattle.cove_tvm.proofs.GivesLawful.{free_still}
 use Rattle.cove_tvm.proofs.GivenPages.{given_owner}
-
--- ---- pages outside of a run
 
 front : (how : ℕ → Owner → Owner) (k n : ℕ) (pages : List Owner) → List Owner
 front how k n pages = map (λ item. how item.0 item.1) (enumerate_from k (take n pages)) ++ drop n pages
@@ -36,23 +29,6 @@ each_outside how (suc a) (suc n) [] p out = refl
 each_outside how (suc a) n (x ∷ xs) zero out = refl
 each_outside how (suc a) n (x ∷ xs) (suc p) out =
     each_outside how a n xs p (elim out [ inl under ↦ inl (omega (arith, under)) | inr over ↦ inr (omega (arith, over)) ])
-
--- ---- pages that are given
-
--- free pages are given to a TVM that harts may be inside, as no root
-pub gives_more : (pages harts hart t : ℕ) (old : List ℕ) (role : Role) (first n : ℕ) (now : List ℕ) → (role ≡ Root → ⊥) → first + n ≤ pages → 1 ≤ t → t ≤ TVM_LIMIT
-    → ((p : ℕ) → first ≤ p → p < first + n → IsFreeIn pages harts now p)
-    → AllAllowed (IsLawful pages harts hart old) now (fills first n (given t role))
-gives_more pages harts hart t old role first zero now no_root inside low high free = tt
-gives_more pages harts hart t old role first (suc n) now no_root inside low high free =
-    let behind : (place : ℕ) → pages ≤ place → get_or (set now first (given t role)) place 0 ≡ get_or now place 0 =
-    λ place past. get_or-set_other now first place (given t role) 0 (omega arith) in (
-      Gives first t role (omega arith) low high refl (free first (omega arith) (omega arith)) refl (λ root. absurd (no_root root)),
-      gives_more pages harts hart t old role (first + 1) n (set now first (given t role)) no_root (omega arith) low high
-          (λ p above below.
-          free_still pages harts now (set now first (given t role)) p behind
-          (get_or-set_other now first p (given t role) 0 (omega arith)) (free p (omega arith) (omega arith))),
-    )
 
 -- a page that a TVM has as a root or a table is one
 purpose_table : (t : ℕ) (purpose : Purpose) → (role_number (role_of purpose) ≡ 0) ⊎ (role_number (role_of purpose) ≡ 2) → is_table (Given t purpose) ≡ true

@@ -10,7 +10,7 @@ use Rattle.cove_model.specs.Orderly.{AreDistinct}
 use Rattle.cove_model.specs.Owners.{has}
 use Rattle.cove_model.specs.States.{shown_page}
 use Rattle.cove_model.specs.Tvms.{Mapping, Tvm as ModelTvm}
-use Rattle.cove_stage2.proofs.MapPlaces.{shared_other, shared_same}
+use Rattle.cove_stage2.proofs.MapPlaces.{private_unshared, shared_other, shared_same}
 use Rattle.cove_tvm.specs.MappedRuns.{shown}
 
 -- 1 where a test holds
@@ -18,11 +18,11 @@ abbrev pub one_if : Bool → ℕ
 one_if b = cond b 1 0
 
 -- 1 for a page of a run, and 0 for another
-abbrev pub one_in : (p n q : ℕ) → ℕ
+abbrev one_in : (p n q : ℕ) → ℕ
 one_in p zero q = 0
 one_in p (suc n) q = one_if (eqb p q) + one_in (p + 1) n q
 
-pub in_none : (p n q : ℕ) → (q < p) ⊎ (p + n ≤ q) → one_in p n q ≡ 0
+in_none : (p n q : ℕ) → (q < p) ⊎ (p + n ≤ q) → one_in p n q ≡ 0
 in_none p zero q out = refl
 in_none p (suc n) q out =
     let off : p ≢ q = elim out [ inl under ↦ omega (arith, under) | inr over ↦ omega (arith, over) ] in
@@ -30,7 +30,7 @@ in_none p (suc n) q out =
     let rest = in_none (p + 1) n q (elim out [ inl under ↦ inl (omega (arith, under)) | inr over ↦ inr (omega (arith, over)) ]) in
     omega (arith, here, rest)
 
-pub in_here : (p n q : ℕ) → p ≤ q → q < p + n → one_in p n q ≡ 1
+in_here : (p n q : ℕ) → p ≤ q → q < p + n → one_in p n q ≡ 1
 in_here p zero q low high = absurd (omega arith)
 in_here p (suc n) q low high = elim (cases_eq p q) [
   | inl is ↦
@@ -52,7 +52,7 @@ shown_out p (suc n) q small out =
     let here = shared_other q (p + n) (omega (arith, small)) off in
     omega (arith, before, here)
 
-shown_in : (p n q : ℕ) → p + n ≤ 2 ^ 16 → p ≤ q → q < p + n → shown p n true q ≡ 1
+pub shown_in : (p n q : ℕ) → p + n ≤ 2 ^ 16 → p ≤ q → q < p + n → shown p n true q ≡ 1
 shown_in p zero q small low high = absurd (omega arith)
 shown_in p (suc n) q small low high = elim (cases_eq q (p + n)) [
   | inl last ↦
@@ -73,6 +73,15 @@ shown_is p n q small = elim (cases_lt q p) [
     | inr over ↦ shown_out p n q small (inr over) ∙ sym (in_none p n q (inr over))
   ]
 ]
+
+-- private leaves name no page as shared, and shared ones none outside of their run
+pub shown_private : (p n q : ℕ) → shown p n false q ≡ 0
+shown_private p zero q = refl
+shown_private p (suc n) q = let before = shown_private p n q in let here = private_unshared q (p + n) in omega (arith, before, here)
+
+pub shown_outside : (shared : Bool) (p n q : ℕ) → p + n ≤ 2 ^ 16 → (q < p) ⊎ (p + n ≤ q) → shown p n shared q ≡ 0
+shown_outside false p n q small out = shown_private p n q
+shown_outside true p n q small out = shown_out p n q small out
 
 -- ---- by the state
 

@@ -27,4 +27,5 @@ pub mod StateExamples
 pub mod TvmLends
 pub mod TvmStands
 pub mod TvmTables
+pub mod UnmappedRuns
 pub mod VcpuStands

@@ -1,25 +1,21 @@
 -- Free pages become the memory of a TVM, and its guest pages are mapped to them: what words and ground stand for then.
-use Rattle.std.specs.Prelude.{◌≡◌, ℕ, suc, ◌+◌, ◌/◌, ◌^◌, ◌<◌, ◌≤◌, ◌⊎◌, true, false, is_some, ◌++◌, List, [], Some, length, slice_index_or}
-use Rattle.std.specs.List.{list_any}
+use Rattle.std.specs.Prelude.{◌≡◌, ℕ, suc, ◌+◌, ◌/◌, ◌<◌, ◌≤◌, ◌⊎◌, true, false, ◌++◌, List, [], length, slice_index_or}
 use Rattle.cove_base.specs.Measurement.{registers_of}
 use Rattle.cove_base.specs.PageWords.{given}
 use Rattle.cove_base.specs.Places.{page_word}
 use Rattle.cove_base.specs.Stores.{AllAllowed, fills, stored}
 use Rattle.cove_base.specs.declared.calls.HostCall.TheVariants.{Measured, Zero}
-use Rattle.cove_base.specs.declared.limits.TheConstants.{PAGE_LIMIT}
 use Rattle.cove_base.specs.declared.numbers.Role.TheVariants.{Data}
-use Rattle.cove_model.specs.GuestPages.{guests, missing_tables}
 use Rattle.cove_model.specs.HostCalls.{page_records, rule, words_from}
 use Rattle.cove_model.specs.LawfulStores.{IsLawful}
-use Rattle.cove_model.specs.Mappings.{mapping_of}
 use Rattle.cove_model.specs.Owners.{every, is_free, is_host, zeros}
-use Rattle.cove_model.specs.States.{State, find_tvm}
+use Rattle.cove_model.specs.States.{State}
 use Rattle.cove_model.specs.Tvms.{Tvm as ModelTvm}
 use Rattle.cove_stage2.specs.MapStores.{Pages}
 use Rattle.cove_tvm.specs.MappedRuns.{AreMapped, MayMap}
 use Rattle.cove_tvm.specs.Stands.{Stands}
 use Rattle.cove_tvm.specs.TvmLends.{with_tvm}
-use Rattle.cove_tvm.specs.TvmTables.{live_at}
+use Rattle.cove_tvm.specs.UnmappedRuns.{MayMapIn}
 use Rattle.cove_tvm.specs.declared.ground.Ground.{Ground}
 use Rattle.cove_tvm.specs.declared.machines.Tvm.{Tvm}
 
@@ -30,18 +26,9 @@ memory_stores t base n = fills (page_word (base / 4096)) n (given t Data)
 abbrev pub with_memory : (words : List ℕ) (t base n : ℕ) → List ℕ
 with_memory words t base n = stored words (memory_stores t base n)
 
--- a TVM is live on both sides, free pages of the board may be given to it, and none of its guest pages has a mapping yet, for
--- which it has enough tables
-pub record MayGrow (words : List ℕ) (G : Ground) (S : State) (k base n gpa : ℕ) (old : Tvm) (model : ModelTvm) : Type 0 where
-  pub stands : Stands words G S
-  pub few : G.pages ≤ PAGE_LIMIT
-  pub live : live_at G.tvms (suc k) ≡ Some old
-  pub found : find_tvm S (suc k) ≡ Some model
-  pub inside : base / 4096 + n ≤ G.pages
-  pub free : every is_free (base / 4096) n S.pages ≡ true
-  pub near : gpa / 4096 + n ≤ 2 ^ 29
-  pub unmapped : list_any (λ g. is_some (mapping_of model g)) (guests gpa n) ≡ false
-  pub enough : missing_tables model gpa n ≡ 0
+-- guest pages of a TVM may be mapped to free pages, which may be given to it
+abbrev pub MayGrow : (words : List ℕ) (G : Ground) (S : State) (k base n gpa : ℕ) (old : Tvm) (model : ModelTvm) → Type 0
+MayGrow words G S k base n gpa old model = MayMapIn is_free words G S k base n gpa old model
 
 -- its guest pages are mapped to the pages, which were given to it
 abbrev pub OwnsRun : (words : List ℕ) (G : Ground) (k base n gpa : ℕ) (old : Tvm) (new : List ℕ) (left : Pages) → Type 0

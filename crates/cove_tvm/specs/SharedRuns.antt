@@ -1,37 +1,24 @@
 -- Guest pages of a TVM are mapped to pages of the host's: what words and ground stand for then.
-use Rattle.std.specs.Prelude.{◌≡◌, ℕ, suc, ◌+◌, ◌/◌, ◌^◌, ◌<◌, ◌≤◌, ◌⊎◌, true, false, is_some, List, Some, length, slice_index}
-use Rattle.std.specs.List.{list_any}
+use Rattle.std.specs.Prelude.{◌≡◌, ℕ, suc, ◌+◌, ◌/◌, ◌<◌, ◌≤◌, ◌⊎◌, true, List, length, slice_index}
 use Rattle.cove_base.specs.PageWords.{host}
 use Rattle.cove_base.specs.Places.{page_word}
 use Rattle.cove_base.specs.declared.calls.HostCall.TheVariants.{Shared}
-use Rattle.cove_base.specs.declared.limits.TheConstants.{PAGE_LIMIT}
-use Rattle.cove_model.specs.GuestPages.{guests, missing_tables}
 use Rattle.cove_model.specs.HostCalls.{rule}
-use Rattle.cove_model.specs.Mappings.{mapping_of}
-use Rattle.cove_model.specs.Owners.{every, is_host}
-use Rattle.cove_model.specs.States.{State, find_tvm}
+use Rattle.cove_model.specs.Owners.{is_host}
+use Rattle.cove_model.specs.States.{State}
 use Rattle.cove_model.specs.Orderly.{IsOrderly}
 use Rattle.cove_model.specs.Tvms.{Tvm as ModelTvm}
 use Rattle.cove_stage2.specs.MapStores.{Pages}
 use Rattle.cove_tvm.specs.MappedRuns.{AreMapped, MayMap}
 use Rattle.cove_tvm.specs.Stands.{Stands}
 use Rattle.cove_tvm.specs.TvmLends.{with_tvm}
-use Rattle.cove_tvm.specs.TvmTables.{live_at}
+use Rattle.cove_tvm.specs.UnmappedRuns.{MayMapIn}
 use Rattle.cove_tvm.specs.declared.ground.Ground.{Ground}
 use Rattle.cove_tvm.specs.declared.machines.Tvm.{Tvm}
 
--- a TVM is live on both sides, the pages are the host's, and none of its guest pages has a mapping yet, for which it has
--- enough tables
-pub record MayShare (words : List ℕ) (G : Ground) (S : State) (k base n gpa : ℕ) (old : Tvm) (model : ModelTvm) : Type 0 where
-  pub stands : Stands words G S
-  pub few : G.pages ≤ PAGE_LIMIT
-  pub live : live_at G.tvms (suc k) ≡ Some old
-  pub found : find_tvm S (suc k) ≡ Some model
-  pub inside : base / 4096 + n ≤ G.pages
-  pub hosts : every is_host (base / 4096) n S.pages ≡ true
-  pub near : gpa / 4096 + n ≤ 2 ^ 29
-  pub unmapped : list_any (λ g. is_some (mapping_of model g)) (guests gpa n) ≡ false
-  pub enough : missing_tables model gpa n ≡ 0
+-- guest pages of a TVM may be mapped to pages of the host's
+abbrev pub MayShare : (words : List ℕ) (G : Ground) (S : State) (k base n gpa : ℕ) (old : Tvm) (model : ModelTvm) → Type 0
+MayShare words G S k base n gpa old model = MayMapIn is_host words G S k base n gpa old model
 
 -- the words of n pages of the host's from one on count one mapping more, and all others stay
 pub record RaisesCounts (first n : ℕ) (words new : List ℕ) : Type 0 where

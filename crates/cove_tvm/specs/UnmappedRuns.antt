@@ -1,0 +1,26 @@
+-- When a run of guest pages of a TVM may be mapped to pages of the board.
+use Rattle.std.specs.Prelude.{◌≡◌, ℕ, suc, ◌+◌, ◌/◌, ◌^◌, ◌≤◌, Bool, true, false, is_some, List, Some}
+use Rattle.std.specs.List.{list_any}
+use Rattle.cove_base.specs.declared.limits.TheConstants.{PAGE_LIMIT}
+use Rattle.cove_model.specs.GuestPages.{guests, missing_tables}
+use Rattle.cove_model.specs.Mappings.{mapping_of}
+use Rattle.cove_model.specs.Owners.{Owner, every}
+use Rattle.cove_model.specs.States.{State, find_tvm}
+use Rattle.cove_model.specs.Tvms.{Tvm as ModelTvm}
+use Rattle.cove_tvm.specs.Stands.{Stands}
+use Rattle.cove_tvm.specs.TvmTables.{live_at}
+use Rattle.cove_tvm.specs.declared.ground.Ground.{Ground}
+use Rattle.cove_tvm.specs.declared.machines.Tvm.{Tvm}
+
+-- a TVM is live on both sides, n pages are on the board with owners that pass a test, and none of its guest pages has a
+-- mapping yet, for which it has enough tables
+pub record MayMapIn (test : Owner → Bool) (words : List ℕ) (G : Ground) (S : State) (k base n gpa : ℕ) (old : Tvm) (model : ModelTvm) : Type 0 where
+  pub stands : Stands words G S
+  pub few : G.pages ≤ PAGE_LIMIT
+  pub live : live_at G.tvms (suc k) ≡ Some old
+  pub found : find_tvm S (suc k) ≡ Some model
+  pub inside : base / 4096 + n ≤ G.pages
+  pub owners : every test (base / 4096) n S.pages ≡ true
+  pub near : gpa / 4096 + n ≤ 2 ^ 29
+  pub unmapped : list_any (λ g. is_some (mapping_of model g)) (guests gpa n) ≡ false
+  pub enough : missing_tables model gpa n ≡ 0
