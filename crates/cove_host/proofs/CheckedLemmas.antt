@@ -43,6 +43,11 @@ fails check rest r reply is err = failing check.fails (record { status = check.s
 pub first_passes : (check : Check) (rest : List Check) (u : Unit {0}) → all_checked (check ∷ rest) ≡ Ok u → (check.fails ≡ false) × (all_checked rest ≡ Ok u)
 first_passes check rest u e = passed_first check.fails (record { status = check.status; value = check.value }) (all_checked rest) u e
 
+-- where all pass, each does
+pub each_passes : (checks : List Check) (u : Unit {0}) → all_checked checks ≡ Ok u → AllByRecursion (λ check. check.fails ≡ false) checks
+each_passes [] u e = tt
+each_passes (check ∷ checks) u e = let both = first_passes check checks u e in (both.0, each_passes checks u both.1)
+
 -- where all pass, none is the first that fails
 pub none_fails : (checks : List Check) (u : Unit {0}) → all_checked checks ≡ Ok u → first_failing checks ≡ None
 none_fails [] u e = refl

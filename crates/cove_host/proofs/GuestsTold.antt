@@ -6,15 +6,15 @@ use Rattle.std.specs.List.{list_all, list_any, range_with_len}
 use Rattle.std.specs.Prelude.{IsSome, nat_lt, unwrap_or}
 use Rattle.cove_base.specs.Tables.{IsTree, leaf_at}
 use Rattle.cove_base.specs.declared.statuses.Reply.{Reply}
-use Rattle.cove_base.specs.declared.statuses.Status.TheVariants.{Failed}
+use Rattle.cove_base.specs.declared.statuses.Status.TheVariants.{Failed, InvalidAddress}
 use Rattle.cove_host.proofs.GuestTests.{all_pass, none_passes}
 use Rattle.cove_host.specs.Checked.{checked}
-use Rattle.cove_host.specs.GuestRuns.{AreOfKind, EachGuest, HaveNoLeaf, missing_of}
+use Rattle.cove_host.specs.GuestRuns.{AreOfKind, EachGuest, HaveNoLeaf, KindsFit, kind_as, missing_of}
 use Rattle.cove_imsic.specs.FileTables.{FileTable}
 use Rattle.cove_model.specs.GuestPages.{is_private, is_shared, missing_tables}
 use Rattle.cove_model.specs.Mappings.{mapping_of}
-use Rattle.cove_model.specs.Refusals.{Check}
-use Rattle.cove_model.specs.States.{Seat}
+use Rattle.cove_model.specs.Refusals.{Check, plain}
+use Rattle.cove_model.specs.States.{Seat, State, find_tvm}
 use Rattle.cove_model.specs.Tvms.{Backing, OwnPage, HostPage, Standing, Present, Blocked, Mapping, Tvm as ModelTvm, new_tvm}
 use Rattle.cove_region.proofs.StandingLemmas.{private-agrees, shared-agrees}
 use Rattle.cove_region.specs.GuestMaps.{GuestMap, covers, is_shared as is_row, kind_of}
@@ -24,7 +24,10 @@ use Rattle.cove_region.specs.declared.kinds.AreaKind.TheVariants.{Outside, Priva
 use Rattle.cove_stage2.specs.Lacked.{tables_lacked}
 use Rattle.cove_tvm.proofs.TablesMissing.{missing_agree}
 use Rattle.cove_tvm.specs.LeafStands.{LeafStands, StandingStands, leaf_of}
+use Rattle.cove_tvm.specs.Stands.{Stands}
 use Rattle.cove_tvm.specs.TvmStands.{TvmStands}
+use Rattle.cove_tvm.specs.TvmTables.{live_at}
+use Rattle.cove_tvm.specs.declared.ground.Ground.{Ground}
 use Rattle.cove_tvm.specs.declared.machines.Tvm.{Tvm}
 
 -- a guest page of a kind is in a region
@@ -43,6 +46,11 @@ opposite false false left right = absurd (false≢true (right.1 (left.0 refl)))
 -- the check of missing tables
 abbrev lacking : (missing : ℕ) → Check
 lacking missing = record { fails = nat_lt 0 missing; status = Failed; value = missing }
+
+-- that kind is one of guest pages in a region
+pub never_outside : (shared : Bool) → kind_as shared ≡ Outside → ⊥
+never_outside true e = absurd cc
+never_outside false e = absurd cc
 
 module _ (pages harts : ℕ) (words : List ℕ) (t : ℕ) (seats : ℕ → Option Seat) (files : FileTable) where
   -- ---- kinds
@@ -80,14 +88,6 @@ module _ (pages harts : ℕ) (words : List ℕ) (t : ℕ) (seats : ℕ → Optio
           λ e g low high. (same g).1 ((all_pass (test model) first n).0 e g low high),
           λ each. (all_pass (test model) first n).1 (λ g low high. (same g).0 (each g low high)),
         )
-
-  pub private_told : (x : Option Tvm) (v : Option ModelTvm) (first n : ℕ) (b : Bool) → TvmStands pages harts words t seats files x v → 1 ≤ n
-      → ((b ≡ true) ↔ AreOfKind x Private first n) → list_all (is_private (unwrap_or v (new_tvm t))) (range_with_len first n) ≡ b
-  private_told = kind_told Private is_private private-agrees (λ g. refl)
-
-  pub shared_told : (x : Option Tvm) (v : Option ModelTvm) (first n : ℕ) (b : Bool) → TvmStands pages harts words t seats files x v → 1 ≤ n
-      → ((b ≡ true) ↔ AreOfKind x Shared first n) → list_all (is_shared (unwrap_or v (new_tvm t))) (range_with_len first n) ≡ b
-  shared_told = kind_told Shared is_shared shared-agrees (λ g. refl)
 
   -- ---- mappings
 
@@ -159,3 +159,13 @@ module _ (pages harts : ℕ) (words : List ℕ) (t : ℕ) (seats : ℕ → Optio
       → missing ≡ missing_of x words (gpa / 4096) n → missing ≡ 0 → Ok tt ≡ checked (lacking (missing_tables (unwrap_or v (new_tvm t)) gpa n))
   none_answer x v gpa n missing stands live near is none =
       ap (λ (m : ℕ). checked (lacking m)) (sym none ∙ is ∙ sym (missing_told x v gpa n stands live near))
+
+-- the check of kinds
+pub kinds_told : (words : List ℕ) (G : Ground) (S : State) (t gpa n : ℕ) (shared b : Bool) → Stands words G S → 1 ≤ n
+    → ((b ≡ true) ↔ AreOfKind (live_at G.tvms t) (kind_as shared) (gpa / 4096) n) → checked (plain (not b) InvalidAddress) ≡ checked (KindsFit shared S t gpa n)
+kinds_told words G S t gpa n true b stands some tells =
+    ap (λ e. checked (plain (not e) InvalidAddress))
+    (sym (kind_told G.pages G.harts words t S.seats G.files Shared is_shared shared-agrees (λ g. refl) (live_at G.tvms t) (find_tvm S t) (gpa / 4096) n b (stands.tvm t) some tells))
+kinds_told words G S t gpa n false b stands some tells =
+    ap (λ e. checked (plain (not e) InvalidAddress))
+    (sym (kind_told G.pages G.harts words t S.seats G.files Private is_private private-agrees (λ g. refl) (live_at G.tvms t) (find_tvm S t) (gpa / 4096) n b (stands.tvm t) some tells))

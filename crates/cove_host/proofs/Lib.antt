@@ -12,6 +12,7 @@ mod Finalizing
 mod FreePages
 mod Going
 mod GrowingMeasured
+mod GrowingRuns
 mod GrowingShared
 mod GrowingTvm
 mod GuestTests

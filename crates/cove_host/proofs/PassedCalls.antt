@@ -1,5 +1,5 @@
 -- What a call leaves that every check lets pass, by its stores.
-use Rattle.std.proofs.Common.{◌≡◌, ◌≤◌, ℕ, List, get_or, Ok, sym, arith}
+use Rattle.std.proofs.Common.{◌≡◌, ◌≤◌, ◌∙◌, ℕ, List, get_or, Ok, sym, ap, subst, arith}
 use Rattle.cove_base.specs.Places.{count_word, epoch_word, tvm_word}
 use Rattle.cove_base.specs.Stores.{AllAllowed, stored}
 use Rattle.cove_base.specs.declared.calls.HostCall.{HostCall}
@@ -9,7 +9,7 @@ use Rattle.cove_host.proofs.CheckedLemmas.{none_fails}
 use Rattle.cove_tvm.specs.Called.{Called, IsMet}
 use Rattle.cove_host.specs.Checked.{all_checked}
 use Rattle.cove_model.specs.HostCalls.{rule}
-use Rattle.cove_model.specs.LawfulStores.{IsLawful}
+use Rattle.cove_model.specs.LawfulStores.{IsLawful, MakesLawful}
 use Rattle.cove_model.specs.States.{State}
 use Rattle.cove_tvm.specs.Stands.{Stands}
 use Rattle.cove_tvm.specs.declared.ground.Ground.{Ground}
@@ -34,3 +34,16 @@ passed_call hart call words G H ss told after none lawful behind =
     (λ S met stands.
     let one = told S stands in
     record { none = none_fails (rule S hart call).checks one.0 (sym one.1); value = none S; stands = after S met stands })
+
+-- the same by words that lawful stores lead to
+pub lawful_call : (hart : ℕ) (call : HostCall) (words new : List ℕ) (G H : Ground) → AllPass hart call words G
+    → ((S : State) → IsMet S → Stands words G S → Stands new H (rule S hart call).outcome.state)
+    → ((S : State) → (rule S hart call).outcome.value ≡ 0)
+    → MakesLawful G.pages G.harts hart words words new
+    → ((at : ℕ) → epoch_word G.pages ≤ at → get_or new at 0 ≡ get_or words at 0)
+    → Called hart call words new G H (record { status = Success; value = 0 })
+lawful_call hart call words new G H told after none lawful behind =
+    subst (λ ws. Called hart call words ws G H (record { status = Success; value = 0 })) (sym lawful.2)
+    (passed_call hart call words G H lawful.0 told
+    (λ S met stands. subst (λ ws. Stands ws H (rule S hart call).outcome.state) lawful.2 (after S met stands)) none lawful.1
+    (λ at past. ap (λ ws. get_or ws at 0) (sym lawful.2) ∙ behind at past))

@@ -1,12 +1,10 @@
 -- Counts of shared mappings that are raised, one after another.
-use Rattle.std.proofs.Common.{◌≡◌, ◌∙◌, ℕ, ◌+◌, ◌^◌, ◌<◌, ◌≤◌, List, [], ◌∷◌, ◌++◌, get_or, length, length-set, set, refl, sym, ap, subst, inl, inr, arith, get_or-set_other, get_or-set_same}
+use Rattle.std.proofs.Common.{◌≡◌, ◌∙◌, ℕ, ◌+◌, ◌^◌, ◌<◌, ◌≤◌, List, [], ◌∷◌, get_or, length, length-set, set, refl, sym, ap, subst, inl, inr, arith, get_or-set_other, get_or-set_same}
 use Rattle.std.proofs.lemmas.Bool.{cases_eq}
-use Rattle.cove_base.proofs.StoreLemmas.{stored-append}
 use Rattle.cove_base.specs.PageWords.{host}
-use Rattle.cove_base.specs.Stores.{AllAllowed, stored}
 use Rattle.cove_host.specs.Raised.{AreHosts, RaisesBy}
 use Rattle.cove_model.specs.LawfulStores.{Counts, IsLawful}
-use Rattle.cove_tvm.proofs.GivesLawful.{allowed_append}
+use Rattle.cove_tvm.proofs.GivesLawful.{lawful_twice}
 
 raise_lawful : (pages harts hart : ℕ) (start now : List ℕ) (place maps : ℕ) → place < pages → get_or now place 0 ≡ host maps
     → IsLawful pages harts hart start now place (get_or now place 0 + 8)
@@ -47,11 +45,7 @@ module _ (first i : ℕ) (old now : List ℕ) (done : RaisesBy first i old now) 
     };
     lawful = λ pages harts hart start fits hosts.
         let before = done.lawful pages harts hart start (omega (arith, fits)) (λ p low high. hosts p low (omega (arith, high))) in
-        let store = (first + i, get_or now (first + i) 0 + 8) ∷ [] in
-        let one = next_raise pages harts hart (i + 1) start (omega arith) fits hosts in (
-          before.0 ++ store,
-          allowed_append (IsLawful pages harts hart start) old before.0 store before.1
-              (subst (λ ws. AllAllowed (IsLawful pages harts hart start) ws store) before.2 (one, tt)),
-          ap (λ ws. stored ws store) before.2 ∙ sym (stored-append old before.0 store),
-        );
+        let one = next_raise pages harts hart (i + 1) start (omega arith) fits hosts in
+        lawful_twice pages harts hart start old now (set now (first + i) (get_or now (first + i) 0 + 8)) before
+        ((first + i, get_or now (first + i) 0 + 8) ∷ [], (one, tt), refl);
   })

@@ -6,8 +6,8 @@ ghost use Rattle.cove_base.specs.Unchanged.{Unchanged};
 ghost use Rattle.cove_base.specs.declared.limits.TheConstants.{RANGE_LIMIT};
 ghost use Rattle.cove_tvm.specs.Called.{IsReady};
 ghost use Rattle.cove_host.specs.Checked.{checked};
-ghost use Rattle.cove_host.specs.GuestRuns.{AreOfKind, EachGuest, HasEnough, HaveNoLeaf, missing_of};
-ghost use Rattle.cove_model.specs.Checks.{AllPrivate, AllShared, EnoughTables, Unmapped};
+ghost use Rattle.cove_host.specs.GuestRuns.{AreOfKind, EachGuest, HasEnough, HaveNoLeaf, KindsFit, kind_as, missing_of};
+ghost use Rattle.cove_model.specs.Checks.{EnoughTables, Unmapped};
 ghost use Rattle.cove_model.specs.States.{State};
 ghost use Rattle.cove_region.specs.GuestMaps.{kind_of};
 ghost use Rattle.cove_stage2.specs.Entries.{leaf_word};
@@ -20,28 +20,15 @@ use cove_region::{AreaKind, Regions};
 use cove_stage2::{Leaf, Tables};
 use cove_tvm::Ground;
 
-/// Every guest page is private.
-pub(crate) fn all_private(g: &Ground, t: u64, gpa: u64, n: u64) -> Result<(), Reply>
+/// Every guest page is of the kind that it is to be mapped as: shared, or private.
+pub(crate) fn kinds_fit(g: &Ground, t: u64, gpa: u64, n: u64, shared: bool) -> Result<(), Reply>
     requires within { (1 ≤ n) × (n ≤ RANGE_LIMIT) }
-    ensures told { (words : List ℕ) (S : State) → Stands words g.now S → result ≡ checked (AllPrivate S t gpa n) }
+    ensures told { (words : List ℕ) (S : State) → Stands words g.now S → result ≡ checked (KindsFit shared S t gpa n) }
     ensures near { (words : List ℕ) (S : State) → Stands words g.now S → OnOk result (gpa / 4096 + n ≤ 2 ^ 29) }
-    ensures kinds { OnOk result (AreOfKind (live_at g.now.tvms t) AreaKind.Private (gpa / 4096) n) }
+    ensures kinds { OnOk result (AreOfKind (live_at g.now.tvms t) (kind_as shared) (gpa / 4096) n) }
 {
     check(
-        !are_of_kind(g, t, AreaKind::Private, gpa / 4096, n),
-        Status::InvalidAddress,
-    )
-}
-
-/// Every guest page is shared.
-pub(crate) fn all_shared(g: &Ground, t: u64, gpa: u64, n: u64) -> Result<(), Reply>
-    requires within { (1 ≤ n) × (n ≤ RANGE_LIMIT) }
-    ensures told { (words : List ℕ) (S : State) → Stands words g.now S → result ≡ checked (AllShared S t gpa n) }
-    ensures near { (words : List ℕ) (S : State) → Stands words g.now S → OnOk result (gpa / 4096 + n ≤ 2 ^ 29) }
-    ensures kinds { OnOk result (AreOfKind (live_at g.now.tvms t) AreaKind.Shared (gpa / 4096) n) }
-{
-    check(
-        !are_of_kind(g, t, AreaKind::Shared, gpa / 4096, n),
+        !are_of_kind(g, t, mapped_kind(shared), gpa / 4096, n),
         Status::InvalidAddress,
     )
 }
@@ -89,6 +76,17 @@ pub(crate) fn enough_tables<W: Words>(
         });
     }
     Ok(())
+}
+
+// The kind of guest pages that are mapped shared, or as private ones.
+fn mapped_kind(shared: bool) -> AreaKind
+    ensures { result ≡ kind_as shared }
+{
+    if shared {
+        AreaKind::Shared
+    } else {
+        AreaKind::Private
+    }
 }
 
 // Whether guest pages of a live TVM are all of a kind.

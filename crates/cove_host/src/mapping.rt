@@ -1,58 +1,39 @@
 //! Runs of guest pages that are mapped.
 
-ghost use Rattle.std.specs.Prelude.{◌≡◌, ◌+◌, ◌/◌, ◌^◌, ◌≤◌, [], ◌∷◌, OnOk, Some};
+ghost use Rattle.std.specs.Prelude.{◌≡◌, ◌+◌, ◌/◌, ◌^◌, ◌≤◌, OnOk, Some};
 ghost use Rattle.cove_base.specs.Unchanged.{Unchanged};
 ghost use Rattle.cove_base.specs.declared.limits.TheConstants.{RANGE_LIMIT};
 ghost use Rattle.cove_tvm.specs.Called.{IsReady};
 ghost use Rattle.cove_host.specs.Checked.{all_checked};
+ghost use Rattle.cove_host.specs.GuestRuns.{mapping_checks};
 ghost use Rattle.cove_host.specs.Mapped.{MapsIn, MapsOf, MapsRun, MayMapBy};
-ghost use Rattle.cove_model.specs.Checks.{AllPrivate, AllShared, EnoughTables, Unmapped};
 ghost use Rattle.cove_model.specs.States.{State};
 ghost use Rattle.cove_tvm.specs.Stands.{Stands};
 ghost use Rattle.cove_tvm.specs.TvmTables.{live_at};
 ghost use Rattle.cove_tvm.specs.declared.machines.Tvm.{Tvm};
 
-use crate::guest_pages::{all_private, all_shared, enough_tables, unmapped};
+use crate::guest_pages::{enough_tables, kinds_fit, unmapped};
 use cove_base::{Gpn, Page, RANGE_LIMIT, Reply, Words};
 use cove_stage2::{Pool, Tables};
 use cove_tvm::{Ground, Tvm};
 
-/// Guest pages are private and not mapped yet, and the TVM has the tables that mappings of them need.
-pub(crate) fn may_map_private<W: Words>(
+/// Guest pages are of the kind that they are to be mapped as and not mapped yet, and the TVM has the tables that mappings of
+/// them need.
+pub(crate) fn may_map<W: Words>(
     w: &mut W,
     g: &Ground,
     t: u64,
     gpa: u64,
     n: u64,
+    shared: bool,
 ) -> Result<(), Reply>
     requires ready { IsReady (W.words w.old) g.now }
     requires within { (1 ≤ n) × (n ≤ RANGE_LIMIT) }
-    ensures told { (S : State) → Stands (W.words w.old) g.now S
-        → result ≡ all_checked (AllPrivate S t gpa n ∷ Unmapped S t gpa n ∷ EnoughTables S t gpa n ∷ []) }
+    ensures told { (S : State) → Stands (W.words w.old) g.now S → result ≡ all_checked (mapping_checks shared S t gpa n) }
     ensures near { OnOk result (gpa / 4096 + n ≤ 2 ^ 29) }
     ensures unchanged { Unchanged W.words W.clean W.guard w.old w.new }
 {
-    all_private(g, t, gpa, n)?;
-    unmapped(w, g, t, gpa, n)?;
-    enough_tables(w, g, t, gpa, n)
-}
-
-/// Guest pages are shared and not mapped yet, and the TVM has the tables that mappings of them need.
-pub(crate) fn may_map_shared<W: Words>(
-    w: &mut W,
-    g: &Ground,
-    t: u64,
-    gpa: u64,
-    n: u64,
-) -> Result<(), Reply>
-    requires ready { IsReady (W.words w.old) g.now }
-    requires within { (1 ≤ n) × (n ≤ RANGE_LIMIT) }
-    ensures told { (S : State) → Stands (W.words w.old) g.now S
-        → result ≡ all_checked (AllShared S t gpa n ∷ Unmapped S t gpa n ∷ EnoughTables S t gpa n ∷ []) }
-    ensures near { OnOk result (gpa / 4096 + n ≤ 2 ^ 29) }
-    ensures unchanged { Unchanged W.words W.clean W.guard w.old w.new }
-{
-    all_shared(g, t, gpa, n)?;
+    kinds_fit(g, t, gpa, n, shared)?;
     unmapped(w, g, t, gpa, n)?;
     enough_tables(w, g, t, gpa, n)
 }

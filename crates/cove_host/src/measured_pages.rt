@@ -18,7 +18,7 @@ ghost use Rattle.cove_tvm.specs.declared.machines.Tvm.{Tvm};
 use crate::checks::{DONE, aligned, free, inside};
 use crate::frames::{copy_all, give_copies};
 use crate::lives::{is_building, live};
-use crate::mapping::{map_into, may_map_private};
+use crate::mapping::{map_into, may_map};
 use crate::pages::page_of;
 use crate::runs::{all_host, counted};
 use cove_base::{Gpn, HartId, Page, RANGE_LIMIT, Reply, TvmId, Words};
@@ -85,7 +85,7 @@ fn measurable<W: Words>(
     inside(g, dst, n)?;
     all_host(w, g, src, n)?;
     free(w, g, dst, n)?;
-    may_map_private(w, g, t, gpa, n)
+    may_map(w, g, t, gpa, n, false)
 }
 
 // Measures `n` pages from `page` on, and maps the guest pages of the live TVM `t` from `first` on to them.

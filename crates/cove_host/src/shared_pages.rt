@@ -14,7 +14,7 @@ ghost use Rattle.cove_tvm.specs.Stands.{Stands};
 use crate::checks::{DONE, aligned, inside};
 use crate::counts::raise_counts;
 use crate::lives::{is_runnable, live};
-use crate::mapping::{map_pages, may_map_shared};
+use crate::mapping::{map_pages, may_map};
 use crate::pages::page_of;
 use crate::runs::{all_host, counted};
 use cove_base::{Gpn, HartId, RANGE_LIMIT, Reply, Words};
@@ -71,5 +71,5 @@ fn sharable<W: Words>(
     aligned(gpa)?;
     inside(g, base, n)?;
     all_host(w, g, base, n)?;
-    may_map_shared(w, g, t, gpa, n)
+    may_map(w, g, t, gpa, n, true)
 }

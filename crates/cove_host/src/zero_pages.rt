@@ -14,7 +14,7 @@ ghost use Rattle.cove_tvm.specs.Stands.{Stands};
 use crate::checks::{DONE, aligned, free, inside};
 use crate::frames::{give_zeros, zero_all};
 use crate::lives::{is_runnable, live};
-use crate::mapping::{map_pages, may_map_private};
+use crate::mapping::{map_pages, may_map};
 use crate::pages::page_of;
 use crate::runs::counted;
 use cove_base::{Gpn, HartId, RANGE_LIMIT, Reply, TvmId, Words};
@@ -73,5 +73,5 @@ fn zeroable<W: Words>(
     aligned(gpa)?;
     inside(g, base, n)?;
     free(w, g, base, n)?;
-    may_map_private(w, g, t, gpa, n)
+    may_map(w, g, t, gpa, n, false)
 }

@@ -1,8 +1,8 @@
-use Rattle.std.proofs.Common.{◌∷◌, [], ◌∙◌, sym}
+use Rattle.std.proofs.Common.{◌∷◌, [], ◌∙◌, false, sym}
 use Rattle.std.proofs.lemmas.Result.{err_from_is_err_and}
 use Rattle.cove_host.proofs.CheckedLemmas.{front_passes, then_fails}
 use Rattle.cove_host.proofs.GrowingMeasured.{from_counted, from_host}
-use Rattle.cove_host.proofs.GrowingTvm.{from_private}
+use Rattle.cove_host.specs.GuestRuns.{mapping_checks}
 use Rattle.cove_model.specs.Checks.{AllFree, AllHost, Inside, IsBuilding, Live}
 use Rattle.cove_model.specs.Refusals.{Aligned, Count}
 use Rattle.cove_host.proofs.measured_pages.measurable.Goals as goal
@@ -36,15 +36,15 @@ returns-in_err-free-clause-told g c = λ hart S stands.
     let failed = then_fails
     (Live S c.args.t ∷ IsBuilding S c.args.t ∷ Count c.args.n ∷ Aligned c.args.src ∷ Aligned c.args.dst ∷ Aligned c.args.gpa ∷ Inside S c.args.src c.args.n
     ∷ Inside S c.args.dst c.args.n ∷ AllHost S c.args.src c.args.n ∷ [])
-    (AllFree S c.args.dst c.args.n) (from_private S c.args.t c.args.gpa c.args.n) c.in_err-free.field-0.0
+    (AllFree S c.args.dst c.args.n) (mapping_checks false S c.args.t c.args.gpa c.args.n) c.in_err-free.field-0.0
     ((_, c.in_ok-live.ensures.told _ S stands), ((_, c.in_ok-is_building.ensures.told _ S stands), ((_, c.in_ok-counted.ensures.told), ((_, c.in_ok-aligned.ensures), ((_, c.in_ok-aligned-2.ensures), ((_, c.in_ok-aligned-3.ensures), ((_, c.in_ok-inside.ensures.told _ S stands), ((_, c.in_ok-inside-2.ensures.told _ S stands), ((_, c.in_ok-all_host.ensures.told S stands), tt))))))))) (c.in_err-free.ensures.told S (rw c.in_ok-all_host.ensures.unchanged.words stands)) in
     rw (p.1, p.2) (sym failed)
 
 pub returns-clause-told : goal.returns-clause-told
 returns-clause-told g c = λ hart S stands.
-    c.may_map_private.ensures.told S (rw (c.in_ok-free.ensures.unchanged.words, c.in_ok-all_host.ensures.unchanged.words) stands)
+    c.may_map.ensures.told S (rw (c.in_ok-free.ensures.unchanged.words, c.in_ok-all_host.ensures.unchanged.words) stands)
     ∙ sym (front_passes
     (Live S c.args.t ∷ IsBuilding S c.args.t ∷ Count c.args.n ∷ Aligned c.args.src ∷ Aligned c.args.dst ∷ Aligned c.args.gpa ∷ Inside S c.args.src c.args.n
     ∷ Inside S c.args.dst c.args.n ∷ AllHost S c.args.src c.args.n ∷ AllFree S c.args.dst c.args.n ∷ [])
-    (from_private S c.args.t c.args.gpa c.args.n)
+    (mapping_checks false S c.args.t c.args.gpa c.args.n)
     ((_, c.in_ok-live.ensures.told _ S stands), ((_, c.in_ok-is_building.ensures.told _ S stands), ((_, c.in_ok-counted.ensures.told), ((_, c.in_ok-aligned.ensures), ((_, c.in_ok-aligned-2.ensures), ((_, c.in_ok-aligned-3.ensures), ((_, c.in_ok-inside.ensures.told _ S stands), ((_, c.in_ok-inside-2.ensures.told _ S stands), ((_, c.in_ok-all_host.ensures.told S stands), ((_, c.in_ok-free.ensures.told S (rw c.in_ok-all_host.ensures.unchanged.words stands)), tt)))))))))))

@@ -1,7 +1,7 @@
 use Rattle.cove_base.specs.declared.calls.HostCall.TheVariants.{Zero}
 use Rattle.cove_host.proofs.Creating.{refuses}
 use Rattle.cove_host.proofs.FilledFrames.{zeros_are}
-use Rattle.cove_host.proofs.GrowingTvm.{adds_zero, run_allowed, stores_allowed, zero_grows}
+use Rattle.cove_host.proofs.GrowingTvm.{adds_zero, memory_allowed, memory_maps, zero_grows}
 use Rattle.cove_host.proofs.zero_pages.add_zero_pages.Goals as goal
 
 pub give_zeros-requires-clause-allowed : goal.give_zeros-requires-clause-allowed
@@ -9,8 +9,8 @@ give_zeros-requires-clause-allowed g c =
     let same = c.in-Ok.ensures.unchanged in
     let near = c.in-Ok.ensures.near in
     rw (same.guard, same.words)
-    (stores_allowed _ _ c.requires.ready c.args.base c.args.n c.args.gpa near c.args.h.0 c.args.t
-    (zero_grows _ _ c.requires.ready c.args.base c.args.n c.args.gpa near c.args.t (λ S stands. (c.in-Ok.field-0, c.in-Ok.ensures.told c.args.h.0 S stands)))
+    (memory_allowed c.requires.ready c.args.base c.args.n c.args.gpa c.args.h.0 c.args.t
+    (zero_grows c.requires.ready c.args.base c.args.n c.args.gpa near c.args.h.0 c.args.t (λ S stands. (c.in-Ok.field-0, c.in-Ok.ensures.told c.args.h.0 S stands)))
     _ c.requires.allowed)
 
 pub give_zeros-requires-clause-filled : goal.give_zeros-requires-clause-filled
@@ -21,8 +21,8 @@ map_pages-requires g c = λ tvm live.
     let same = c.in-Ok.ensures.unchanged in
     let near = c.in-Ok.ensures.near in
     rw (c.give_zeros.ensures.guard, c.give_zeros.ensures.words, c.page_of-in-Ok.ensures, same.guard, same.words)
-    (run_allowed _ _ c.requires.ready c.args.base c.args.n c.args.gpa near c.args.h.0 c.args.t
-    (zero_grows _ _ c.requires.ready c.args.base c.args.n c.args.gpa near c.args.t (λ S stands. (c.in-Ok.field-0, c.in-Ok.ensures.told c.args.h.0 S stands)))
+    (memory_maps c.requires.ready c.args.base c.args.n c.args.gpa c.args.h.0 c.args.t
+    (zero_grows c.requires.ready c.args.base c.args.n c.args.gpa near c.args.h.0 c.args.t (λ S stands. (c.in-Ok.field-0, c.in-Ok.ensures.told c.args.h.0 S stands)))
     _ c.requires.allowed tvm live)
 
 pub returns-in-Err-clause-called : goal.returns-in-Err-clause-called
@@ -33,6 +33,6 @@ returns-in-Err-clause-called g c =
 pub returns-in-Ok-clause-called : goal.returns-in-Ok-clause-called
 returns-in-Ok-clause-called g c =
     let same = c.in-Ok.ensures.unchanged in
-    adds_zero _ _ c.requires.ready c.args.base c.args.n c.args.gpa c.in-Ok.ensures.near c.args.h.0 _ _ _ (rw c.page_of.ensures at c.zero_all.ensures) c.args.t
+    adds_zero c.requires.ready c.args.base c.args.n c.args.gpa c.in-Ok.ensures.near c.args.h.0 _ _ _ (rw c.page_of.ensures at c.zero_all.ensures) c.args.t
     (λ S stands. (c.in-Ok.field-0, c.in-Ok.ensures.told c.args.h.0 S stands))
     (rw (c.page_of-in-Ok.ensures, c.give_zeros.ensures.words, same.words) at c.map_pages.ensures.mapped)

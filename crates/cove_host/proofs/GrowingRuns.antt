@@ -1,0 +1,143 @@
+-- Guest pages of a TVM are mapped to a run of pages: what the checks tell, and what the code leaves.
+use Rattle.std.proofs.Common.{◌≡◌, ◌∙◌, ◌-◌, ℕ, zero, suc, ◌+◌, ◌/◌, ◌^◌, ◌≤◌, Bool, false, is_some, not, List, ◌∷◌, length, Some, Ok, sym, ap, subst, inr, arith}
+use Rattle.std.proofs.lemmas.Bool.{ltb-false, not-false}
+use Rattle.std.proofs.lemmas.Option.{none-some, same_Some}
+use Rattle.std.specs.List.{list_any}
+use Rattle.std.specs.Prelude.{unwrap_or}
+use Rattle.cove_base.specs.declared.calls.HostCall.{HostCall}
+use Rattle.cove_base.specs.declared.statuses.Status.TheVariants.{InvalidAddress, Success}
+use Rattle.cove_host.proofs.CheckedLemmas.{each_passes}
+use Rattle.cove_host.proofs.LifeTold.{both_live}
+use Rattle.cove_host.proofs.PassedCalls.{AllPass, lawful_call}
+use Rattle.cove_host.specs.Checked.{all_checked}
+use Rattle.cove_host.specs.GuestRuns.{mapping_checks}
+use Rattle.cove_host.specs.Mapped.{MapsRun, MayMapBy}
+use Rattle.cove_model.specs.Checks.{EnoughTables, Inside, IsRunnable, Live, Unmapped}
+use Rattle.cove_model.specs.GuestPages.{guests, missing_tables}
+use Rattle.cove_model.specs.HostCalls.{rule}
+use Rattle.cove_model.specs.LawfulStores.{AllowsLawful, MakesLawful}
+use Rattle.cove_model.specs.Mappings.{mapping_of}
+use Rattle.cove_model.specs.Owners.{Owner, every}
+use Rattle.cove_model.specs.Refusals.{Aligned, Check, Count, plain}
+use Rattle.cove_model.specs.States.{State, find_tvm}
+use Rattle.cove_model.specs.Tvms.{Tvm as ModelTvm, new_tvm}
+use Rattle.cove_stage2.specs.MapStores.{Pages}
+use Rattle.cove_tvm.proofs.GivesLawful.{lawful_twice}
+use Rattle.cove_tvm.proofs.MappedRuns.{behind_elsewhere}
+use Rattle.cove_tvm.proofs.RunsStand.{Prepares, run_may, was}
+use Rattle.cove_tvm.specs.Called.{Called, IsMet, IsReady}
+use Rattle.cove_tvm.specs.MappedRuns.{AreMapped, MayMap}
+use Rattle.cove_tvm.specs.Stands.{Stands}
+use Rattle.cove_tvm.specs.TvmLends.{with_tvm}
+use Rattle.cove_tvm.specs.TvmTables.{live_at}
+use Rattle.cove_tvm.specs.UnmappedRuns.{MayMapIn}
+use Rattle.cove_tvm.specs.declared.ground.Ground.{Ground}
+use Rattle.cove_tvm.specs.declared.machines.Tvm.{Tvm}
+
+-- ---- the checks of a call that maps one run, from each on
+
+-- the owner of each page passes a test
+abbrev pub AllAre : (test : Owner → Bool) → State → (base n : ℕ) → Check
+AllAre test S base n = plain (not (every test (base / 4096) n S.pages)) InvalidAddress
+
+abbrev pub from_count : (test : Owner → Bool) (shared : Bool) → State → (t base n gpa : ℕ) → List Check
+from_count test shared S t base n gpa = Count n ∷ Aligned base ∷ Aligned gpa ∷ Inside S base n ∷ AllAre test S base n ∷ mapping_checks shared S t gpa n
+
+abbrev pub run_checks : (test : Owner → Bool) (shared : Bool) → State → (t base n gpa : ℕ) → List Check
+run_checks test shared S t base n gpa = Live S t ∷ IsRunnable S t ∷ from_count test shared S t base n gpa
+
+-- ---- what they tell
+
+-- a TVM whose guest pages may be mapped to the run
+pub record Grown (test : Owner → Bool) (words : List ℕ) (G : Ground) (S : State) (k base n gpa : ℕ) : Type 0 where
+  pub old : Tvm
+  pub model : ModelTvm
+  pub may : MayMapIn test words G S k base n gpa old model
+
+-- the TVM with a number is one
+abbrev pub Grows : (test : Owner → Bool) (words : List ℕ) (G : Ground) (S : State) (t base n gpa : ℕ) → Type 0
+Grows test words G S zero base n gpa = ⊥
+Grows test words G S (suc k) base n gpa = Grown test words G S k base n gpa
+
+module _ {words : List ℕ} {G : Ground} (ready : IsReady words G) (base n gpa : ℕ) (near : gpa / 4096 + n ≤ 2 ^ 29) (test : Owner → Bool) where
+  pub grows : (t : ℕ) (S : State) → Stands words G S → (Live S t).fails ≡ false → (Inside S base n).fails ≡ false → (AllAre test S base n).fails ≡ false
+      → (Unmapped S t gpa n).fails ≡ false → (EnoughTables S t gpa n).fails ≡ false → Grows test words G S t base n gpa
+  grows t S stands lives inside owners unmapped enough = go t (both_live words G S t (live_at G.tvms t) (find_tvm S t) (stands.tvm t) lives) unmapped enough
+    where
+      go : (u : ℕ) → (tvm : Tvm) × (model : ModelTvm) × (live_at G.tvms u ≡ Some tvm) × (find_tvm S u ≡ Some model)
+          → (Unmapped S u gpa n).fails ≡ false → (EnoughTables S u gpa n).fails ≡ false → Grows test words G S u base n gpa
+      go zero both none some = absurd (none-some both.0 both.2)
+      go (suc k) both none some =
+          let long = stands.words_stand.stands.owners.page_count in
+          let missing : missing_tables (unwrap_or (find_tvm S (suc k)) (new_tvm (suc k))) gpa n ≤ 0 = ltb-false 0 (missing_tables (unwrap_or (find_tvm S (suc k)) (new_tvm (suc k))) gpa n) some in
+          let same : missing_tables (unwrap_or (find_tvm S (suc k)) (new_tvm (suc k))) gpa n ≡ missing_tables both.1 gpa n =
+          ap (λ x. missing_tables (unwrap_or x (new_tvm (suc k))) gpa n) both.3 in
+          record {
+            old = both.0;
+            model = both.1;
+            may = record {
+              stands = stands;
+              few = ready.page_limit;
+              live = both.2;
+              found = both.3;
+              inside = subst (λ m. base / 4096 + n ≤ m) long (ltb-false (length S.pages) (base / 4096 + n) inside);
+              owners = not-false (every test (base / 4096) n S.pages) owners;
+              near = near;
+              unmapped = ap (λ x. list_any (λ g. is_some (mapping_of (unwrap_or x (new_tvm (suc k))) g)) (guests gpa n)) (sym both.3) ∙ none;
+              enough = omega (arith, missing, same);
+            };
+          }
+
+  -- where all checks of such a call pass
+  pub run_grows : (shared : Bool) (t : ℕ)
+      → ((S : State) → Stands words G S → (u : Unit {0}) × (Ok u ≡ all_checked (run_checks test shared S t base n gpa)))
+      → (S : State) → Stands words G S → Grows test words G S t base n gpa
+  run_grows shared t told S stands =
+      let one = told S stands in
+      let all = each_passes (run_checks test shared S t base n gpa) one.0 (sym one.1) in
+      let from_inside = all.1.1.1.1.1 in
+      let from_unmapped = from_inside.1.1.1 in
+      grows t S stands all.0 from_inside.0 from_inside.1.0 from_unmapped.0 from_unmapped.1.0
+
+-- ---- what the code leaves
+
+module _ {test : Owner → Bool} {shared : Bool} {words mid : List ℕ} {G : Ground} {S : State} {k base n gpa : ℕ} {old : Tvm} {model : ModelTvm}
+    (may : MayMapIn test words G S k base n gpa old model) (prepared : Prepares G.pages G.harts (suc k) (base / 4096) n shared words mid) where
+  -- the run may be mapped, where every lawful store is allowed
+  pub run_allowed : (hart : ℕ) (allows : List ℕ → ℕ → ℕ → Type 0) → AllowsLawful allows G.pages G.harts hart words → (tvm : Tvm) → live_at G.tvms (suc k) ≡ Some tvm
+      → MayMapBy allows tvm.tables.pages tvm.tables.root.0 (gpa / 4096) (base / 4096) n shared mid tvm.pool.pages
+  run_allowed hart allows lawful tvm live =
+      subst (λ (x : Tvm). MayMapBy allows x.tables.pages x.tables.root.0 (gpa / 4096) (base / 4096) n shared mid x.pool.pages) (same_Some old tvm (sym may.live ∙ live))
+      (subst (λ m. MayMapBy allows m old.tables.root.0 (gpa / 4096) (base / 4096) n shared mid old.pool.pages) (sym (was may).board)
+      (record { harts = G.harts; tvm = suc k; hart = hart; start = words; may = run_may may prepared; lawful = lawful }))
+
+  -- it is mapped
+  pub run_mapped : (new : List ℕ) (left : Pages) → MapsRun old.tables.pages old.tables.root.0 (gpa / 4096) (base / 4096) n n shared mid old.pool.pages new left.pages
+      → AreMapped G.pages G.harts (suc k) old.tables.root.0 (gpa / 4096) (base / 4096) n n shared mid old.pool.pages new left.pages
+  run_mapped new left mapped =
+      subst (λ m. AreMapped m G.harts (suc k) old.tables.root.0 (gpa / 4096) (base / 4096) n n shared mid old.pool.pages new left.pages) (was may).board
+      (mapped G.harts (suc k)
+      (subst (λ m. MayMap m G.harts mid (suc k) old.tables.root.0 old.pool.pages (gpa / 4096) (base / 4096) n shared) (sym (was may).board) (run_may may prepared)))
+
+  -- an accepted call, by the lawful stores before the run, and the state after it
+  pub run_called : (hart : ℕ) (call : HostCall) (new : List ℕ) (H : Ground) (left : Pages) → AllPass hart call words G
+      → MapsRun old.tables.pages old.tables.root.0 (gpa / 4096) (base / 4096) n n shared mid old.pool.pages new left.pages
+      → MakesLawful G.pages G.harts hart words words mid
+      → ((R : State) → IsMet R → Stands words G R → Stands new H (rule R hart call).outcome.state)
+      → ((R : State) → (rule R hart call).outcome.value ≡ 0)
+      → Called hart call words new G H (record { status = Success; value = 0 })
+  run_called hart call new H left told mapped lawful after none =
+      let run = run_mapped new left mapped in
+      let inside = may.inside in
+      lawful_call hart call words new G H told after none (lawful_twice G.pages G.harts hart words words mid new lawful (run.lawful hart words))
+      (λ at past. run.elsewhere at (behind_elsewhere G.pages mid (suc k) at (omega arith)) ∙ prepared.others at (inr (omega arith)))
+
+-- the ground with frames that were filled and a TVM that was written anew
+pub stands_written : (G : Ground) (frames : List (List ℕ)) (k : ℕ) {H : Ground} {T : State} {new : List ℕ} {now renewed : Tvm}
+    → H ≡ record G { memory = frames; tvms = with_tvm G.tvms (suc k - 1) now } → now ≡ renewed
+    → Stands new (record G { memory = frames; tvms = with_tvm G.tvms k renewed }) T → Stands new H T
+stands_written G frames k {H} {T} {new} {now} {renewed} is same stands =
+    let before : suc k - 1 ≡ k = omega arith in
+    subst (λ ground. Stands new ground T) (sym is)
+    (subst (λ m. Stands new (record G { memory = frames; tvms = with_tvm G.tvms m now }) T) (sym before)
+    (subst (λ one. Stands new (record G { memory = frames; tvms = with_tvm G.tvms k one }) T) (sym same) stands))
