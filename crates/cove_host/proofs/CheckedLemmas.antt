@@ -1,6 +1,8 @@
 -- What checks in their order answer.
 use Rattle.std.proofs.Common.{◌≡◌, ◌∙◌, Bool, true, false, cond, List, [], ◌∷◌, ◌++◌, Option, Some, None, Result, Ok, Err, refl, sym, ap, arith}
+use Rattle.std.proofs.lemmas.Result.{err_from_is_err_and}
 use Rattle.std.specs.List.{AllByRecursion}
+use Rattle.std.specs.Prelude.{IsErrAnd}
 use Rattle.cove_base.specs.declared.statuses.Reply.{Reply}
 use Rattle.cove_host.specs.Checked.{all_checked, checked}
 use Rattle.cove_model.specs.Refusals.{Check, first_failing}
@@ -71,3 +73,10 @@ front_passes (check ∷ front) rest all = passes check (front ++ rest) (Ok all.0
 pub then_fails : (front : List Check) (check : Check) (rest : List Check) (reply : Reply) → AllByRecursion (λ one. (u : Unit {0}) × (Ok u ≡ checked one)) front
     → Err reply ≡ checked check → all_checked (front ++ check ∷ rest) ≡ Err reply
 then_fails front check rest reply all e = front_passes front (check ∷ rest) all ∙ fails check rest (Err reply) reply e refl
+
+-- what is returned there
+pub stops : {r : Answer} {reply : Reply} (front : List Check) (check : Check) (rest : List Check) → IsErrAnd r (λ said. said ≡ reply)
+    → AllByRecursion (λ one. (u : Unit {0}) × (Ok u ≡ checked one)) front → Err reply ≡ checked check → r ≡ all_checked (front ++ check ∷ rest)
+stops {r} {reply} front check rest is all e =
+    let said = err_from_is_err_and r is in
+    said.1 ∙ ap Err said.2 ∙ sym (then_fails front check rest reply all e)

@@ -54,7 +54,7 @@ pub record Grown (test : Owner → Bool) (words : List ℕ) (G : Ground) (S : St
   pub model : ModelTvm
   pub may : MayMapIn test words G S k base n gpa old model
 
--- the TVM with a number is one
+-- the TVM with a number is one; none has the number 0
 abbrev pub Grows : (test : Owner → Bool) (words : List ℕ) (G : Ground) (S : State) (t base n gpa : ℕ) → Type 0
 Grows test words G S zero base n gpa = ⊥
 Grows test words G S (suc k) base n gpa = Grown test words G S k base n gpa

@@ -1,6 +1,5 @@
 use Rattle.std.proofs.Common.{◌∷◌, [], ◌∙◌, false, sym}
-use Rattle.std.proofs.lemmas.Result.{err_from_is_err_and}
-use Rattle.cove_host.proofs.CheckedLemmas.{front_passes, then_fails}
+use Rattle.cove_host.proofs.CheckedLemmas.{front_passes, stops}
 use Rattle.cove_host.proofs.GrowingRuns.{from_count}
 use Rattle.cove_host.specs.GuestRuns.{mapping_checks}
 use Rattle.cove_model.specs.Checks.{AllFree, Inside, IsRunnable, Live}
@@ -10,17 +9,13 @@ use Rattle.cove_host.proofs.zero_pages.zeroable.Goals as goal
 
 pub returns-in_err-live-clause-told : goal.returns-in_err-live-clause-told
 returns-in_err-live-clause-told g c = λ hart S stands.
-    let p = err_from_is_err_and c.from_residual.result c.from_residual.ensures.1 in
-    let failed = then_fails [] (Live S c.args.t) (IsRunnable S c.args.t ∷ from_count is_free false S c.args.t c.args.base c.args.n c.args.gpa) c.in_err-live.field-0.0 tt
-    (c.in_err-live.ensures.told _ S stands) in
-    rw (p.1, p.2) (sym failed)
+    stops [] (Live S c.args.t) (IsRunnable S c.args.t ∷ from_count is_free false S c.args.t c.args.base c.args.n c.args.gpa) c.from_residual.ensures.1 tt
+    (c.in_err-live.ensures.told _ S stands)
 
 pub returns-in_err-is_runnable-clause-told : goal.returns-in_err-is_runnable-clause-told
 returns-in_err-is_runnable-clause-told g c = λ hart S stands.
-    let p = err_from_is_err_and c.from_residual-in_err-is_runnable.result c.from_residual-in_err-is_runnable.ensures.1 in
-    let failed = then_fails (Live S c.args.t ∷ []) (IsRunnable S c.args.t) (from_count is_free false S c.args.t c.args.base c.args.n c.args.gpa) c.in_err-is_runnable.field-0.0
-    ((_, c.in_ok-live.ensures.told _ S stands), tt) (c.in_err-is_runnable.ensures.told _ S stands) in
-    rw (p.1, p.2) (sym failed)
+    stops (Live S c.args.t ∷ []) (IsRunnable S c.args.t) (from_count is_free false S c.args.t c.args.base c.args.n c.args.gpa) c.from_residual-in_err-is_runnable.ensures.1
+    ((_, c.in_ok-live.ensures.told _ S stands), tt) (c.in_err-is_runnable.ensures.told _ S stands)
 
 pub returns-clause-told : goal.returns-clause-told
 returns-clause-told g c = λ hart S stands.
