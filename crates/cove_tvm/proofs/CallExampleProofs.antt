@@ -1,8 +1,9 @@
 -- What the examples of calls show.
-use Rattle.std.proofs.Common.{◌≡◌, ℕ, zero, suc, ◌+◌, ◌<◌, ◌≤◌, not, false, List, [], ◌∷◌, Some, None, get_or, length, set, get_or-set_same, refl, sym, ap, subst, ◌∙◌, true≢false, arith}
+use Rattle.std.proofs.Common.{◌≡◌, ◌≢◌, ℕ, zero, suc, ◌+◌, ◌<◌, ◌≤◌, not, false, List, [], ◌∷◌, Some, None, get_or, length, set, get_or-set_other, get_or-set_same, refl, sym, ap, subst, ◌∙◌, true≢false, arith}
 use Rattle.std.proofs.lemmas.Option.{none-some}
 use Rattle.std.specs.Prelude.{unwrap_or}
-use Rattle.cove_base.specs.Places.{count_word, epoch_word, tvm_word}
+use Rattle.cove_base.specs.Places.{answered_word, count_word, epoch_word, tvm_word}
+use Rattle.cove_base.specs.Stores.{AllAllowed, stored}
 use Rattle.cove_base.specs.Statuses.{is_success}
 use Rattle.cove_base.specs.declared.calls.HostCall.{HostCall}
 use Rattle.cove_base.specs.declared.calls.HostCall.TheVariants.{Convert, Create}
@@ -12,6 +13,8 @@ use Rattle.cove_base.specs.declared.statuses.Status.TheVariants.{Denied, Invalid
 use Rattle.cove_model.proofs.Histories.{sound}
 use Rattle.cove_model.proofs.Lists.{replicate_zero}
 use Rattle.cove_model.proofs.Ordering.{orderly}
+use Rattle.cove_model.proofs.StoreLawProofs.{answers_apart}
+use Rattle.cove_model.specs.LawfulStores.{IsLawful, MakesLawful}
 use Rattle.cove_model.specs.Answers.{is_built, refusal, refusal_by, reply_to, state_by}
 use Rattle.cove_model.specs.HostCalls.{rule}
 use Rattle.cove_model.specs.Owners.{AsState, Given, Host, page_at}
@@ -152,19 +155,57 @@ no_tvm hart root state words new G S reply met stands passes called =
     let is : length G.tvms.tvms ≡ S.made + 1 = after.board.made in
     omega arith
 
-pub count_moved : (hart : ℕ) (call : HostCall) (words : List ℕ) (G H : Ground) (reply : Reply) → count_word G.pages G.harts < length words
-    → Called hart call words (set words (count_word G.pages G.harts) (get_or words (count_word G.pages G.harts) 0 + 1)) G H reply → ⊥
-count_moved hart call words G H reply low called =
-    let place = count_word G.pages G.harts in
-    let is = get_or-set_same words (count_word G.pages G.harts) (get_or words (count_word G.pages G.harts) 0 + 1) 0 low in
-    let stays = called.count in
+-- a word that was stored is another one
+raised : (words : List ℕ) (place : ℕ) → place < length words → get_or (set words place (get_or words place 0 + 1)) place 0 ≡ get_or words place 0 → ⊥
+raised words place low stays =
+    let is = get_or-set_same words place (get_or words place 0 + 1) 0 low in
     omega (arith, is, stays)
 
-pub fence_by_two : (hart : ℕ) (call : HostCall) (words new : List ℕ) (G H : Ground) (reply : Reply)
-    → FencesWithin G.pages G.harts words 3 → epoch_in G.pages new ≡ 5 → Called hart call words new G H reply → ⊥
-fence_by_two hart call words new G H reply within five called =
-    let few : epoch_in G.pages new ≤ 4 = (called.fences 3 within).epoch in
-    omega (arith, five, few)
+-- lawful stores of one hart leave the numbers that the others answered
+answers_stay : (pages harts hart other : ℕ) (old : List ℕ) → other < harts → other ≢ hart → (words : List ℕ) (ss : List (ℕ × ℕ))
+    → AllAllowed (IsLawful pages harts hart old) words ss
+    → get_or (stored words ss) (answered_word pages other) 0 ≡ get_or words (answered_word pages other) 0
+answers_stay pages harts hart other old on off words [] all = refl
+answers_stay pages harts hart other old on off words (s ∷ ss) all =
+    answers_stay pages harts hart other old on off (set words s.0 s.1) ss all.1
+    ∙ get_or-set_other words s.0 (answered_word pages other) s.1 0 (answers_apart all.0 other on off)
+
+answered_alone : (pages harts hart other : ℕ) (words : List ℕ) → other < harts → other ≢ hart → answered_word pages other < length words
+    → MakesLawful pages harts hart words words (set words (answered_word pages other) (get_or words (answered_word pages other) 0 + 1)) → ⊥
+answered_alone pages harts hart other words on off low lawful =
+    raised words (answered_word pages other) low
+    (ap (λ new. get_or new (answered_word pages other) 0) lawful.2 ∙ answers_stay pages harts hart other words on off words lawful.0 lawful.1)
+
+by_two : (pages harts : ℕ) (new : List ℕ) → epoch_in pages new ≡ 5 → FencesWithin pages harts new 4 → ⊥
+by_two pages harts new five within = let few : epoch_in pages new ≤ 4 = within.epoch in omega (arith, five, few)
+
+module _ (hart : ℕ) (call : HostCall) where
+  pub count_moved : (words : List ℕ) (G H : Ground) (reply : Reply) → count_word G.pages G.harts < length words
+      → Called hart call words (set words (count_word G.pages G.harts) (get_or words (count_word G.pages G.harts) 0 + 1)) G H reply → ⊥
+  count_moved words G H reply low called = raised words (count_word G.pages G.harts) low called.count
+
+  pub served_count : (words : List ℕ) (G H : Ground) (reply : Reply) → count_word G.pages G.harts < length words
+      → IsServed hart call words (set words (count_word G.pages G.harts) (get_or words (count_word G.pages G.harts) 0 + 1)) G H reply → ⊥
+  served_count words G H reply low served = raised words (count_word G.pages G.harts) low served.count
+
+  pub fence_by_two : (words new : List ℕ) (G H : Ground) (reply : Reply) → FencesWithin G.pages G.harts words 3 → epoch_in G.pages new ≡ 5
+      → Called hart call words new G H reply → ⊥
+  fence_by_two words new G H reply within five called = by_two G.pages G.harts new five (called.fences 3 within)
+
+  pub served_fence : (words new : List ℕ) (G H : Ground) (reply : Reply) → FencesWithin G.pages G.harts words 3 → epoch_in G.pages new ≡ 5
+      → IsServed hart call words new G H reply → ⊥
+  served_fence words new G H reply within five served = by_two G.pages G.harts new five (served.fences 3 within)
+
+module _ (hart other : ℕ) (call : HostCall) (words : List ℕ) (G H : Ground) (reply : Reply) (on : other < G.harts) (off : other ≢ hart)
+    (low : answered_word G.pages other < length words) where
+  abbrev answered : List ℕ
+  answered = set words (answered_word G.pages other) (get_or words (answered_word G.pages other) 0 + 1)
+
+  pub other_hart : Called hart call words answered G H reply → ⊥
+  other_hart called = answered_alone G.pages G.harts hart other words on off low called.lawful
+
+  pub served_other : IsServed hart call words answered G H reply → ⊥
+  served_other served = answered_alone G.pages G.harts hart other words on off low served.lawful
 
 -- ---- calls, built or not
 

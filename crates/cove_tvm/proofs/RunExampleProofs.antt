@@ -1,7 +1,7 @@
 -- What the examples of runs of guest pages show.
-use Rattle.std.proofs.Common.{◌≡◌, ◌≢◌, ℕ, zero, suc, ◌+◌, ◌-◌, ◌<◌, ◌≤◌, ◌==◌, not, Bool, true, false, List, [], ◌∷◌, get_or, length, set, replicate, refl, sym, ap, subst, ◌∙◌, inl, inr, arith}
+use Rattle.std.proofs.Common.{◌≡◌, ◌≢◌, ℕ, zero, suc, ◌+◌, ◌-◌, ◌<◌, ◌≤◌, ◌==◌, not, Bool, true, false, List, [], ◌∷◌, get_or, length, set, replicate, refl, sym, ap, subst, ◌∙◌, inl, inr, true≢false, arith, ◌/◌}
 use Rattle.std.proofs.lemmas.List.{get_or-append_right}
-use Rattle.cove_base.proofs.TreeLemmas.{last-number, link-slot, middle≢last, root≢last, root≢middle}
+use Rattle.cove_base.proofs.TreeLemmas.{last-number, link-slot, middle≢last, root-number, root≢last, root≢middle}
 use Rattle.cove_base.proofs.TreeStores.{IsStoreAt, OnlyAt, leaf-store, link-store, spare-kept, tree-leaf, tree-link}
 use Rattle.cove_base.specs.PageWords.{given, host}
 use Rattle.cove_base.specs.Places.{all_words, table_word}
@@ -262,6 +262,12 @@ second_leaf mapped =
     let zero_leaf : leaf_at 8 4 mappable 10 ≡ 0 = no_entry (InLast 10) (omega arith) in
     omega arith
 
+pub second_table : AreMapped 8 1 1 4 9 2 1 1 false mappable (0 ∷ 1 ∷ []) (stored nine_mapped ((2057, next_table 3) ∷ [])) [] → ⊥
+second_table mapped =
+    let is : next_table 3 ≡ 0 = mapped.only (InRoot 1) (omega arith)
+    (λ j low. (λ e. let same = root-number 1 ((9 + j) / 512 / 512) e in omega arith, root≢middle 1 ((9 + j) / 512))) in
+    omega arith
+
 pub page_word : AreMapped 8 1 1 4 9 2 1 1 false mappable (0 ∷ 1 ∷ []) (stored nine_mapped ((3, host 2) ∷ [])) [] → ⊥
 page_word mapped =
     let is : host 2 ≡ host 1 = mapped.elsewhere 3 (λ page k below low own is. omega arith) in
@@ -298,6 +304,9 @@ leaf_alone are =
     let none_is : leaf_at 8 4 nine_mapped 9 ≡ 0 = are.leaf 9 (omega arith) in
     let there : leaf_at 8 4 nine_mapped 9 ≡ 2271 = leaf_only.here in
     omega arith
+
+pub unlinked : AreMappings 8 1 mappable 1 4 (0 ∷ 1 ∷ []) (record (new_tvm 1) { tables = 0 ∷ 1 ∷ 2 ∷ []; thirds = 0 ∷ [] }) → ⊥
+unlinked are = true≢false (are.links (InMiddle 0) (omega arith) ∙ ap (λ k. not (k == 0)) (no_entry (InMiddle 0) (omega arith)))
 
 pub table_lost : AreMappings 8 1 mappable 1 4 (0 ∷ []) (record (new_tvm 1) { tables = 0 ∷ 1 ∷ [] }) → ⊥
 table_lost are = let is : ◌≡◌ {A = ℕ} 2 1 = are.count in omega arith

@@ -1,7 +1,7 @@
 //! Worked examples of what a call of a hart needs, and what it leaves.
 
-ghost use Rattle.std.specs.Prelude.{◌≡◌, ◌+◌, ◌<◌, ℕ, List, [], ◌∷◌, false, None, Some, length, slice_index, slice_set};
-ghost use Rattle.cove_base.specs.Places.{count_word, epoch_word};
+ghost use Rattle.std.specs.Prelude.{◌≡◌, ◌≢◌, ◌+◌, ◌<◌, ℕ, List, [], ◌∷◌, false, None, Some, length, slice_index, slice_set};
+ghost use Rattle.cove_base.specs.Places.{answered_word, count_word, epoch_word};
 ghost use Rattle.cove_base.specs.declared.calls.HostCall.{HostCall};
 ghost use Rattle.cove_base.specs.declared.calls.HostCall.TheVariants.{Convert, Create};
 ghost use Rattle.cove_base.specs.declared.limits.TheConstants.{ENTRY_LIMIT};
@@ -50,7 +50,8 @@ pub fn worked_refusing()
         → Called hart call words new G (record G { kicked = G.kicked + 1 }) (only Denied) → ⊥ }
 {}
 
-/// An accepted creation that leaves the TVMs as they were is none, and no call moves the count or lets a fence rise by two.
+/// An accepted creation that leaves the TVMs as they were is none; no call moves the count, lets a fence rise by two or answers
+/// for another hart.
 pub fn worked_accepting()
     ensures no_tvm { (hart root state : ℕ) (words new : List ℕ) (G : Ground) (S : State) (reply : Reply) → IsMet S → Stands words G S
         → refusal_by (rule S hart (Create root state)) ≡ None → Called hart (Create root state) words new G G reply → ⊥ }
@@ -60,6 +61,10 @@ pub fn worked_accepting()
         → ⊥ }
     ensures fence { (hart : ℕ) (call : HostCall) (words new : List ℕ) (G H : Ground) (reply : Reply)
         → FencesWithin G.pages G.harts words 3 → epoch_in G.pages new ≡ 5 → Called hart call words new G H reply → ⊥ }
+    ensures other_hart { (hart other : ℕ) (call : HostCall) (words : List ℕ) (G H : Ground) (reply : Reply)
+        → other < G.harts → other ≢ hart → answered_word G.pages other < length words
+        → Called hart call words (slice_set words (answered_word G.pages other) (slice_index words (answered_word G.pages other) + 1)) G H reply
+        → ⊥ }
 {}
 
 /// A call that is not built is answered that it isn't supported, and leaves words and ground; no other answer serves.
@@ -71,4 +76,18 @@ pub fn worked_serving()
     ensures refused { (hart : ℕ) (words : List ℕ) (G : Ground) → IsServed hart (Convert 0 0) words words G G (only InvalidParam) }
     ensures word_changed { (hart : ℕ) (call : HostCall) (rest : List ℕ) (G H : Ground)
         → IsServed hart call (0 ∷ rest) (1 ∷ rest) G H (only NotSupported) → ⊥ }
+{}
+
+/// No call that is served moves the count, lets a fence rise by two or answers for another hart.
+pub fn worked_bounds()
+    ensures count { (hart : ℕ) (call : HostCall) (words : List ℕ) (G H : Ground) (reply : Reply)
+        → count_word G.pages G.harts < length words
+        → IsServed hart call words (slice_set words (count_word G.pages G.harts) (slice_index words (count_word G.pages G.harts) + 1)) G H reply
+        → ⊥ }
+    ensures fence { (hart : ℕ) (call : HostCall) (words new : List ℕ) (G H : Ground) (reply : Reply)
+        → FencesWithin G.pages G.harts words 3 → epoch_in G.pages new ≡ 5 → IsServed hart call words new G H reply → ⊥ }
+    ensures other_hart { (hart other : ℕ) (call : HostCall) (words : List ℕ) (G H : Ground) (reply : Reply)
+        → other < G.harts → other ≢ hart → answered_word G.pages other < length words
+        → IsServed hart call words (slice_set words (answered_word G.pages other) (slice_index words (answered_word G.pages other) + 1)) G H reply
+        → ⊥ }
 {}

@@ -58,11 +58,13 @@ pub fn worked_leaving()
         → LeavesTvm 1 1 old new 1 → ⊥ }
 {}
 
-/// A store of the epoch leaves every TVM; a store of a TVM's number leaves the others alone.
+/// A store of the epoch leaves every TVM; a store of a TVM's number, or of a word of its tables, leaves the others alone.
 pub fn worked_storing()
     ensures epoch { (words : List ℕ) (n : ℕ) → LeavesEveryTvm 1 1 words (slice_set words (epoch_word 1) n) }
     ensures a_number { LeavesEveryTvm 1 1 small_words (slice_set small_words (tvm_word 1 1 2) 5) → ⊥ }
     ensures other_number { (words : List ℕ) (n : ℕ) → LeavesTvm 1 1 words (slice_set words (tvm_word 1 1 2) n) 1 }
+    ensures other_table { (rest : List ℕ) → LeavesTvm 1 1 (given 2 Table ∷ 0 ∷ rest) (given 2 Table ∷ 5 ∷ rest) 1 }
+    ensures own_table { (rest : List ℕ) → LeavesTvm 1 1 (given 1 Table ∷ 0 ∷ rest) (given 1 Table ∷ 5 ∷ rest) 1 → ⊥ }
     ensures own_number { LeavesTvm 1 1 small_words (slice_set small_words (tvm_word 1 1 2) 5) 2 → ⊥ }
 {}
 

@@ -29,7 +29,8 @@ pub use build_examples::{
     worked_beginning, worked_destroying, worked_giving, worked_growing, worked_starting,
 };
 pub use call_examples::{
-    worked_accepting, worked_meeting, worked_readiness, worked_refusing, worked_serving,
+    worked_accepting, worked_bounds, worked_meeting, worked_readiness, worked_refusing,
+    worked_serving,
 };
 pub use destroy_laws::destroy_law;
 pub use examples::{

@@ -4,6 +4,7 @@ ghost use Rattle.std.specs.Prelude.{◌+◌, ℕ, List, [], ◌∷◌, false, tr
 ghost use Rattle.cove_base.specs.PageWords.{host};
 ghost use Rattle.cove_base.specs.Stores.{stored};
 ghost use Rattle.cove_base.specs.TableWords.{private_leaf};
+ghost use Rattle.cove_base.specs.Tables.{next_table};
 ghost use Rattle.cove_model.specs.Tvms.{new_tvm};
 ghost use Rattle.cove_tvm.specs.Examples.{own_five};
 ghost use Rattle.cove_tvm.specs.MappedRuns.{AreMapped, MapsNext, MayMap};
@@ -43,13 +44,14 @@ pub fn worked_runs_to_map()
     ensures mapped_before { MayMap 8 1 nine_mapped 1 4 [] 9 2 1 false → ⊥ }
 {}
 
-/// Guest page 9 is mapped by three stores, which take both spare pages; a leaf that lacks, a second leaf, a page word that
-/// changes or a table that is spare still is not what a mapping leaves.
+/// Guest page 9 is mapped by three stores, which take both spare pages; a leaf that lacks, a second leaf or table, a page word
+/// that changes or a table that is spare still is not what a mapping leaves.
 pub fn worked_mapping()
     ensures none_yet { AreMapped 8 1 1 4 9 2 1 0 false mappable (0 ∷ 1 ∷ []) mappable (0 ∷ 1 ∷ []) }
     ensures one { AreMapped 8 1 1 4 9 2 1 1 false mappable (0 ∷ 1 ∷ []) nine_mapped [] }
     ensures no_leaf { AreMapped 8 1 1 4 9 2 1 1 false mappable (0 ∷ 1 ∷ []) nine_linked [] → ⊥ }
     ensures second_leaf { AreMapped 8 1 1 4 9 2 1 1 false mappable (0 ∷ 1 ∷ []) (stored nine_mapped ((18, private_leaf 2) ∷ [])) [] → ⊥ }
+    ensures second_table { AreMapped 8 1 1 4 9 2 1 1 false mappable (0 ∷ 1 ∷ []) (stored nine_mapped ((2057, next_table 3) ∷ [])) [] → ⊥ }
     ensures page_word { AreMapped 8 1 1 4 9 2 1 1 false mappable (0 ∷ 1 ∷ []) (stored nine_mapped ((3, host 2) ∷ [])) [] → ⊥ }
     ensures spare_yet { AreMapped 8 1 1 4 9 2 1 1 false mappable (0 ∷ 1 ∷ []) nine_mapped (0 ∷ []) → ⊥ }
 {}
@@ -67,6 +69,7 @@ pub fn worked_mappings()
     ensures none { AreMappings 8 1 mappable 1 4 (0 ∷ 1 ∷ []) (record (new_tvm 1) { tables = 0 ∷ 1 ∷ [] }) }
     ensures no_leaf { AreMappings 8 1 mappable 1 4 (0 ∷ 1 ∷ []) (record (new_tvm 1) { tables = 0 ∷ 1 ∷ []; mappings = own_five ∷ [] }) → ⊥ }
     ensures leaf_alone { AreMappings 8 1 nine_mapped 1 4 [] (record (new_tvm 1) { tables = 0 ∷ 1 ∷ []; thirds = 0 ∷ []; seconds = 0 ∷ [] }) → ⊥ }
+    ensures unlinked { AreMappings 8 1 mappable 1 4 (0 ∷ 1 ∷ []) (record (new_tvm 1) { tables = 0 ∷ 1 ∷ 2 ∷ []; thirds = 0 ∷ [] }) → ⊥ }
     ensures table_lost { AreMappings 8 1 mappable 1 4 (0 ∷ []) (record (new_tvm 1) { tables = 0 ∷ 1 ∷ [] }) → ⊥ }
 {}
 

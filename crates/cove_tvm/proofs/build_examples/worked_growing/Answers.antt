@@ -17,3 +17,6 @@ returns-clause-one_page c = λ tvm adds.
 pub returns-clause-gone : goal.returns-clause-gone
 returns-clause-gone c = λ tvm building adds.
     true≢false (ap (λ (one : Tvm). is_gone one.life) adds.rest ∙ ap (λ (life : Life). is_gone life) building)
+
+pub returns-clause-less_room : goal.returns-clause-less_room
+returns-clause-less_room c = λ tvm nine adds. let is : 8 ≡ tvm.pool.room = adds.room in absurd (omega arith)

@@ -1,4 +1,4 @@
-use Rattle.cove_tvm.proofs.RunExampleProofs.{no_leaf, none_yet, one, page_word, second_leaf, spare_still}
+use Rattle.cove_tvm.proofs.RunExampleProofs.{no_leaf, none_yet, one, page_word, second_leaf, second_table, spare_still}
 use Rattle.cove_tvm.proofs.run_examples.worked_mapping.Goals as goal
 
 pub returns-clause-none_yet : goal.returns-clause-none_yet
@@ -18,3 +18,6 @@ returns-clause-page_word c = page_word
 
 pub returns-clause-spare_yet : goal.returns-clause-spare_yet
 returns-clause-spare_yet c = spare_still
+
+pub returns-clause-second_table : goal.returns-clause-second_table
+returns-clause-second_table c = second_table

@@ -1,4 +1,4 @@
-use Rattle.cove_tvm.proofs.RunExampleProofs.{leaf_alone, leaf_lacks, none, table_lost}
+use Rattle.cove_tvm.proofs.RunExampleProofs.{leaf_alone, leaf_lacks, none, table_lost, unlinked}
 use Rattle.cove_tvm.proofs.run_examples.worked_mappings.Goals as goal
 
 pub returns-clause-none : goal.returns-clause-none
@@ -12,3 +12,6 @@ returns-clause-leaf_alone c = leaf_alone
 
 pub returns-clause-table_lost : goal.returns-clause-table_lost
 returns-clause-table_lost c = table_lost
+
+pub returns-clause-unlinked : goal.returns-clause-unlinked
+returns-clause-unlinked c = unlinked
