@@ -9,9 +9,9 @@ use Rattle.cove_base.specs.PageWords.{given, host}
 use Rattle.cove_base.specs.Places.{hart_word}
 use Rattle.cove_base.specs.Tables.{Slot, InMiddle, IsLinkSlot, Names, entry_at, leaf_at, next_table, present}
 use Rattle.cove_base.specs.declared.numbers.Role.TheVariants.{Root, Table, Data}
-use Rattle.cove_host.proofs.Counting.{leaf_counts}
+use Rattle.cove_clear.proofs.Counting.{leaf_counts}
+use Rattle.cove_clear.specs.Leaving.{AreCounted, AreGathered, IsLeaving}
 use Rattle.cove_host.specs.Inside.{is_inside}
-use Rattle.cove_host.specs.Leaving.{AreCounted, AreGathered, IsLeaving}
 use Rattle.cove_model.proofs.KeyedLemmas.{at_key}
 use Rattle.cove_model.proofs.LeafWords.{blocked_named, given_host, given_role, none_named, present_named}
 use Rattle.cove_model.proofs.Lists.{all_at}

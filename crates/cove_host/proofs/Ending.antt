@@ -7,16 +7,16 @@ use Rattle.cove_base.specs.Places.{count_word, epoch_word, table_word, tvm_word}
 use Rattle.cove_base.specs.Stores.{AllAllowed, stored}
 use Rattle.cove_base.specs.declared.calls.HostCall.TheVariants.{Destroy}
 use Rattle.cove_base.specs.declared.statuses.Status.TheVariants.{Success}
+use Rattle.cove_clear.proofs.Going.{leads_on}
+use Rattle.cove_clear.specs.Leaving.{Goes, IsLeaving, MayLeave, Proceeds}
 use Rattle.cove_host.proofs.Beginning.{begins_leaving}
 use Rattle.cove_host.proofs.CheckedLemmas.{first_passes, none_fails}
-use Rattle.cove_host.proofs.Going.{leads_on}
 use Rattle.cove_host.proofs.LifeTold.{both_live}
 use Rattle.cove_host.proofs.TakenPages.{all_destroys, all_lawful, all_own}
 use Rattle.cove_tvm.specs.Called.{Called, IsMet, IsReady}
 use Rattle.cove_host.specs.Checked.{all_checked}
 use Rattle.cove_host.specs.Ended.{HasEnded, IsEnding, MayEnd}
 use Rattle.cove_host.specs.Inside.{is_inside}
-use Rattle.cove_host.specs.Leaving.{Goes, IsLeaving, MayLeave, Proceeds}
 use Rattle.cove_host.specs.Released.{HavePlaces, all_cpu_pages, release_stores}
 use Rattle.cove_model.specs.Checks.{Live, NobodyInside}
 use Rattle.cove_model.specs.HostCalls.{rule}

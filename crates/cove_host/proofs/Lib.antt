@@ -3,14 +3,12 @@ mod Adding
 mod Beginning
 mod CheckedLemmas
 mod Converting
-mod Counting
 mod Creating
 mod Ending
 mod Fencing
 mod FilledFrames
 mod Finalizing
 mod FreePages
-mod Going
 mod GrowingMeasured
 mod GrowingRuns
 mod GrowingShared
@@ -32,4 +30,3 @@ mod ServedCalls
 mod SharedPages
 mod TableProofs
 mod TakenPages
-mod Zeroing

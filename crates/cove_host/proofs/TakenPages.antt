@@ -14,7 +14,7 @@ use Rattle.cove_base.specs.Stores.{AllAllowed, stored}
 use Rattle.cove_base.specs.Tables.{Slot, InRoot, InMiddle, InLast, IsLinkSlot, below, entry_at, leaf_at, next_table}
 use Rattle.cove_base.specs.declared.numbers.Role.{Role}
 use Rattle.cove_base.specs.declared.numbers.Role.TheVariants.{Root, State, Table, Vcpu, Data}
-use Rattle.cove_host.specs.Leaving.{Clears, IsLeaving}
+use Rattle.cove_clear.specs.Leaving.{Clears, IsLeaving}
 use Rattle.cove_host.specs.Released.{all_cpu_pages, cpu_pages, release_stores}
 use Rattle.cove_model.proofs.Distinct.{has_left, has_right}
 use Rattle.cove_model.proofs.LeafWords.{given_host, none_named}

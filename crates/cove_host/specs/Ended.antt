@@ -1,6 +1,6 @@
 -- What the end of a TVM needs of words and of the TVM, and what it leaves.
 use Rattle.std.specs.Prelude.{◌≡◌, ℕ, true, List, Option}
-use Rattle.cove_host.specs.Leaving.{IsLeaving}
+use Rattle.cove_clear.specs.Leaving.{IsLeaving}
 use Rattle.cove_imsic.specs.FileTables.{FileTable}
 use Rattle.cove_model.specs.LawfulStores.{AllowsLawful, MakesLawful}
 use Rattle.cove_model.specs.States.{Seat}

@@ -4,7 +4,6 @@ pub mod Finalized
 pub mod Found
 pub mod GuestRuns
 pub mod Inside
-pub mod Leaving
 pub mod Mapped
 pub mod MeasuredRuns
 pub mod MoreRegions

@@ -18,10 +18,10 @@ ghost use Rattle.cove_tvm.specs.declared.ground.Ground.{Ground};
 ghost use Rattle.cove_tvm.specs.declared.machines.Tvm.{Tvm};
 
 use crate::checks::DONE;
-use crate::clearing::clear_tables;
 use crate::lives::live;
 use crate::releasing::release_pages;
 use cove_base::{HartId, Reply, Status, Words, hart_word};
+use cove_clear::clear_tables;
 use cove_tvm::{Ground, Life, Tvm};
 
 /// Destroys a TVM that no hart is inside: clears its tables, lowers the count of each page of the host's that it mapped, and

@@ -7,7 +7,6 @@
 //! clause `called` of each call. It stands on the relation and the laws of `cove_tvm`.
 
 mod checks;
-mod clearing;
 mod counts;
 mod covh;
 mod creation;

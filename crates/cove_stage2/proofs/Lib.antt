@@ -7,4 +7,5 @@ pub mod LackedLemmas
 pub mod LawfulLemmas
 pub mod MapPlaces
 pub mod RestLemmas
+pub mod SharedWords
 pub mod ZeroLemmas

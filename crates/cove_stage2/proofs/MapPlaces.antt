@@ -1,9 +1,8 @@
 -- Where the stores of a mapping stand, and what they leave: every word that is none of the TVM's tables, the count of leaves
 -- that name a page as shared, and each page of the pool, which is there still or serves a slot.
-use Rattle.std.proofs.Common.{◌≡◌, ◌≢◌, ℕ, zero, suc, ◌+◌, ◌-◌, ◌/◌, ◌%◌, ◌^◌, ◌<◌, ◌≤◌, ◌==◌, ◌&&◌, ◌||◌, ◌⊎◌, Bool, true, false, cond, List, [], ◌∷◌, Contains, get_or, length, set, refl, sym, ap, subst, ◌∙◌, inl, inr, arith, get_or-set_other, length-set}
+use Rattle.std.proofs.Common.{◌≡◌, ◌≢◌, ℕ, zero, suc, ◌+◌, ◌-◌, ◌/◌, ◌^◌, ◌<◌, ◌≤◌, ◌⊎◌, Bool, true, false, List, [], ◌∷◌, Contains, get_or, length, set, refl, sym, ap, subst, ◌∙◌, inl, inr, arith, get_or-set_other, length-set}
 use Rattle.std.proofs.lemmas.Bool.{cases_eq, eq-eqb, ne_eqb}
 use Rattle.std.proofs.lemmas.List.{get_or-take, get_or_default, length-take-le}
-use Rattle.std.proofs.lemmas.List.Sums.{sum_by-cons}
 use Rattle.cove_base.proofs.StoreLemmas.{length-stored, stored-append}
 use Rattle.cove_base.proofs.TreeLemmas.{entry-stands, link-slot, middle≢last, root≢last, root≢middle}
 use Rattle.cove_base.specs.Places.{all_words, table_word}
@@ -11,10 +10,11 @@ use Rattle.cove_base.specs.Stores.{AllAllowed, stored}
 use Rattle.cove_base.specs.Tables.{Slot, InRoot, InMiddle, InLast, IsPresent, IsLinkSlot, IsPool, IsTree, StandsAt, entry_at, leaf_at, next_table, present}
 use Rattle.cove_model.proofs.OwnedStores.{IsOwnPlace}
 use Rattle.cove_model.proofs.SharedLeaves.{stores_count_shared}
-use Rattle.cove_model.specs.TableLaw.{is_shared_leaf, shared_leaves, shared_once}
+use Rattle.cove_model.specs.TableLaw.{shared_leaves, shared_once}
 use Rattle.cove_stage2.proofs.LawfulLemmas.{IsLinked, allowed-append, given_in, linked_way, lower, middle_place, upper, way_is}
 use Rattle.cove_stage2.proofs.LeafLemmas.{leaf-changes, leaf-stands}
 use Rattle.cove_stage2.proofs.LinkLemmas.{links-none}
+use Rattle.cove_stage2.proofs.SharedWords.{is_shared, not_shared, once_is}
 use Rattle.cove_stage2.specs.Changes.{KeepsLinks, slot_place}
 use Rattle.cove_stage2.specs.Lacked.{tables_lacked}
 use Rattle.cove_stage2.specs.LawfulTables.{AreGiven}
@@ -22,44 +22,24 @@ use Rattle.cove_stage2.specs.MapStores.{link_stores, map_stores, next_page, pool
 
 -- ---- which words are leaves that name a page as shared
 
-once_by : (q word : ℕ) (b : Bool) → is_shared_leaf q word ≡ b → shared_once q word ≡ cond b 1 0
-once_by q word b is = sum_by-cons (λ w. cond (is_shared_leaf q w) 1 0) word [] ∙ ap (λ c. cond c 1 0 + 0) is ∙ tidy b
-  where
-    tidy : (c : Bool) → cond c 1 0 + 0 ≡ cond c 1 0
-    tidy true = refl
-    tidy false = refl
-
-abbrev tells_shared : (q rest page : ℕ) → Bool
-tells_shared q rest page = (rest == 0xD7 || rest == 0xD7 + 0xFF) && page == q
-
 -- no link, and no private leaf
 pub link_unshared : (q page : ℕ) → shared_once q (next_table page) ≡ 0
-link_unshared q page =
-    let rest : next_table page % 1024 ≡ 1 = omega arith in
-    once_by q (next_table page) false (ap (λ r. tells_shared q r (next_table page / 1024 % 2 ^ 16)) rest)
+link_unshared q page = once_is q (next_table page) false (not_shared q (next_table page) 1 (omega arith) refl)
 
 pub private_unshared : (q page : ℕ) → shared_once q (present page false) ≡ 0
-private_unshared q page =
-    let rest : present page false % 1024 ≡ 0xDF = omega arith in
-    once_by q (present page false) false (ap (λ r. tells_shared q r (present page false / 1024 % 2 ^ 16)) rest)
+private_unshared q page = once_is q (present page false) false (not_shared q (present page false) 223 (omega arith) refl)
 
 -- a shared leaf names its page alone
 pub shared_same : (q page : ℕ) → page < 2 ^ 16 → page ≡ q → shared_once q (present page true) ≡ 1
 shared_same q page small is =
-    let rest : present page true % 1024 ≡ 0xD7 = omega arith in
-    let number : present page true / 1024 % 2 ^ 16 ≡ page = omega arith in
-    once_by q (present page true) true
-    (ap (λ r. tells_shared q r (present page true / 1024 % 2 ^ 16)) rest ∙ ap (tells_shared q 0xD7) number ∙ eq-eqb page q is)
+    once_is q (present page true) true (is_shared q page (present page true) 215 (omega arith) refl (omega arith) ∙ eq-eqb page q is)
 
 pub shared_other : (q page : ℕ) → page < 2 ^ 16 → page ≢ q → shared_once q (present page true) ≡ 0
 shared_other q page small off =
-    let rest : present page true % 1024 ≡ 0xD7 = omega arith in
-    let number : present page true / 1024 % 2 ^ 16 ≡ page = omega arith in
-    once_by q (present page true) false
-    (ap (λ r. tells_shared q r (present page true / 1024 % 2 ^ 16)) rest ∙ ap (tells_shared q 0xD7) number ∙ ne_eqb page q off)
+    once_is q (present page true) false (is_shared q page (present page true) 215 (omega arith) refl (omega arith) ∙ ne_eqb page q off)
 
 zero_unshared : (q : ℕ) → shared_once q 0 ≡ 0
-zero_unshared q = once_by q 0 false refl
+zero_unshared q = once_is q 0 false refl
 
 -- ---- stores that link tables
 

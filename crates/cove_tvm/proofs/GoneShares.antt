@@ -22,6 +22,7 @@ use Rattle.cove_model.specs.Owners.{has}
 use Rattle.cove_model.specs.States.{Seat, shown_page}
 use Rattle.cove_model.specs.TableLaw.{is_shared_leaf, shared_leaves, shared_once}
 use Rattle.cove_model.specs.Tvms.{Backing, HostPage, OwnPage, Mapping, Standing, Blocked, Present, Tvm as ModelTvm}
+use Rattle.cove_stage2.proofs.SharedWords.{is_shared, not_shared, once_is}
 use Rattle.cove_tvm.specs.DestroyedTvms.{Destroys}
 use Rattle.cove_tvm.specs.LeafStands.{LeafStands, StandingStands, leaf_of}
 use Rattle.cove_tvm.specs.TvmStands.{LiveStands}
@@ -94,20 +95,6 @@ none_found t (x ∷ xs) = go (eqb x.number t) refl (none_found t xs)
     go false is more = ap (λ b. cond b (Some x) (at (λ (tvm : ModelTvm). tvm.number) t (dropped (λ (tvm : ModelTvm). eqb tvm.number t) xs))) is ∙ more
 
 -- ---- leaves that share a page
-
-pub once_is : (p word : ℕ) (b : Bool) → is_shared_leaf p word ≡ b → shared_once p word ≡ flag b
-once_is p word b e =
-    let one = sum_by-cons (λ k. cond (is_shared_leaf p k) 1 0) word [] in
-    let is = ap flag e in
-    omega arith
-
-pub not_shared : (p word r : ℕ) → word % 1024 ≡ r → (eqb r 215 || eqb r 470) ≡ false → is_shared_leaf p word ≡ false
-not_shared p word r e off =
-    ap (λ k. (eqb k 215 || eqb k 470) && eqb (word / 1024 % 2 ^ 16) p) e ∙ ap (λ b. b && eqb (word / 1024 % 2 ^ 16) p) off
-
-pub is_shared : (p page word r : ℕ) → word % 1024 ≡ r → (eqb r 215 || eqb r 470) ≡ true → word / 1024 % 2 ^ 16 ≡ page → is_shared_leaf p word ≡ eqb page p
-is_shared p page word r e on is =
-    ap (λ k. (eqb k 215 || eqb k 470) && eqb (word / 1024 % 2 ^ 16) p) e ∙ ap (λ b. b && eqb (word / 1024 % 2 ^ 16) p) on ∙ ap (λ k. eqb k p) is
 
 -- a leaf shares a page as often as its mapping does
 abbrev Shares : (p leaf : ℕ) → Option Mapping → Type 0

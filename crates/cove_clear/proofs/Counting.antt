@@ -1,0 +1,248 @@
+-- What is left of a TVM's tables after the count of a page of the host's changed, while it is destroyed; and how many pages are gathered.
+use Rattle.std.proofs.Common.{◌≡◌, ◌≢◌, ℕ, zero, suc, ◌+◌, ◌*◌, ◌/◌, ◌%◌, ◌^◌, ◌<◌, ◌≤◌, ◌⊎◌, ◌∙◌, ◌||◌, not, Bool, true, false, true≢false, cond, eqb, eqb-true, eq-eqb, List, [], ◌∷◌, drop, get_or, length, length-set, set, take, refl, sym, ap, subst, inl, inr, arith, get_or-set_other, get_or-set_same}
+use Rattle.std.proofs.lemmas.Bool.{cases_eq, or_left}
+use Rattle.std.proofs.lemmas.List.{get_or-drop, get_or-take, length-drop, length-take}
+use Rattle.std.proofs.lemmas.List.Sums.{get_or-le-sum_by}
+use Rattle.cove_base.specs.PageWords.{given, host}
+use Rattle.cove_base.specs.Places.{hart_word, table_word}
+use Rattle.cove_base.specs.Tables.{Slot, InRoot, InMiddle, InLast, IsLeaf, IsLink, IsLinkSlot, IsSlot, IsTree, Names, ByBlocked, ByPresent, below, entry_at, leaf_at, next_table}
+use Rattle.cove_base.specs.declared.numbers.Role.{Role}
+use Rattle.cove_base.specs.declared.numbers.Role.TheVariants.{Root, Table, Data}
+use Rattle.cove_clear.specs.Leaving.{AreCounted, AreGathered, Clears, IsOpen}
+use Rattle.cove_model.proofs.Distinct.{distinct_filter}
+use Rattle.cove_model.proofs.LeafWords.{given_host, none_named}
+use Rattle.cove_model.proofs.Members.{false-true, has_not, has_with}
+use Rattle.cove_model.proofs.OwnedStores.{page_stored, stands_in}
+use Rattle.cove_model.proofs.SharedLeaves.{stores_count_shared}
+use Rattle.cove_model.proofs.SlotStores.{below_named, entries_stay, next_cases}
+use Rattle.cove_model.specs.LawfulStores.{AreOwned, Counts, IsBehind, IsLawful, IsRoot, LeafNames}
+use Rattle.cove_model.specs.Orderly.{AreDistinct}
+use Rattle.cove_model.specs.Owners.{has, without}
+use Rattle.cove_model.specs.TableLaw.{is_shared_leaf, shared_leaves}
+use Rattle.cove_stage2.proofs.SharedWords.{is_shared}
+
+abbrev flag : Bool → ℕ
+flag b = cond b 1 0
+
+-- ---- a page that a leaf shares is counted
+
+shares_page : (q leaf : ℕ) → q < 2 ^ 16 → Names q true leaf → is_shared_leaf q leaf ≡ true
+shares_page q leaf small (ByPresent is) =
+    let word : leaf ≡ 1024 * q + 215 = is in
+    is_shared q q leaf 215 (omega arith) refl (omega arith) ∙ eq-eqb q q refl
+shares_page q leaf small (ByBlocked since is) =
+    let word : leaf ≡ 1024 * q + 215 + 255 + 2 ^ 26 * since = is in
+    is_shared q q leaf 470 (omega arith) refl (omega arith) ∙ eq-eqb q q refl
+
+word_counts : (pages : ℕ) (words : List ℕ) (q p i : ℕ) → 513 * pages ≤ length words → p < pages → i < 512
+    → is_shared_leaf q (get_or words (table_word pages p i) 0) ≡ true → 0 < shared_leaves pages words q
+word_counts pages words q p i size on low is =
+    let within : 512 * p + i < length (take (512 * pages) (drop pages words)) =
+    omega (arith, length-take (512 * pages) (drop pages words), length-drop pages words) in
+    let word : get_or (take (512 * pages) (drop pages words)) (512 * p + i) 0 ≡ get_or words (table_word pages p i) 0 =
+    get_or-take (512 * pages) (drop pages words) (512 * p + i) 0 (omega arith) ∙ get_or-drop pages words (512 * p + i) 0
+    ∙ ap (λ n. get_or words n 0) (omega arith) in
+    let one : flag (is_shared_leaf q (get_or (take (512 * pages) (drop pages words)) (512 * p + i) 0)) ≡ 1 =
+    ap flag (ap (is_shared_leaf q) word ∙ is) in
+    let most = get_or-le-sum_by (λ w. flag (is_shared_leaf q w)) (take (512 * pages) (drop pages words)) (512 * p + i) 0 within in
+    omega arith
+
+pub leaf_counts : (pages : ℕ) (words : List ℕ) (r g q : ℕ) → 513 * pages ≤ length words
+    → ((page : ℕ) → entry_at pages r words (InMiddle (g / 512)) ≡ next_table page → page < pages) → g < 2 ^ 29 → q < 2 ^ 16
+    → Names q true (leaf_at pages r words g) → 0 < shared_leaves pages words q
+leaf_counts pages words r g q size board low small named = go (next_cases pages (entry_at pages r words (InMiddle (g / 512))))
+  where
+    go : ((page : ℕ) × (entry_at pages r words (InMiddle (g / 512)) ≡ next_table page)) ⊎ ((ws : List ℕ) (i : ℕ) → below pages ws (entry_at pages r words (InMiddle (g / 512))) i ≡ 0)
+        → 0 < shared_leaves pages words q
+    go (inl table) =
+        let on = board table.0 table.1 in
+        let leaf = below_named pages (entry_at pages r words (InMiddle (g / 512))) table.0 (g % 512) words table.1 in
+        word_counts pages words q table.0 (g % 512) size on (omega arith) (ap (is_shared_leaf q) (sym leaf) ∙ shares_page q (leaf_at pages r words g) small named)
+    go (inr none) = absurd (none_named q true (leaf_at pages r words g) (none words (g % 512)) named)
+
+-- ---- a list of different pages of the board is no longer than the board
+
+without_one : (k : ℕ) (ps : List ℕ) → has k ps ≡ false → without k ps ≡ ps
+without_one k [] e = refl
+without_one k (p ∷ ps) e = go (eqb p k) e (without_one k ps)
+  where
+    go : (b : Bool) → (b || has k ps) ≡ false → (has k ps ≡ false → without k ps ≡ ps) → cond (not b) (p ∷ without k ps) (without k ps) ≡ p ∷ ps
+    go true q rest = absurd (true≢false q)
+    go false q rest = ap (λ list. p ∷ list) (rest q)
+
+one_less : (k : ℕ) (ps : List ℕ) → AreDistinct ps → length ps ≤ length (without k ps) + 1
+one_less k [] apart = omega arith
+one_less k (p ∷ ps) apart = go (eqb p k) refl (one_less k ps apart.1)
+  where
+    go : (b : Bool) → eqb p k ≡ b → length ps ≤ length (without k ps) + 1 → length (p ∷ ps) ≤ length (cond (not b) (p ∷ without k ps) (without k ps)) + 1
+    go true is rest =
+        let same = ap length (without_one k ps (subst (λ n. has n ps ≡ false) (eqb-true p k is) apart.0)) in
+        omega arith
+    go false is rest = omega arith
+
+pub few_pages : (n : ℕ) (ps : List ℕ) → AreDistinct ps → ((k : ℕ) → has k ps ≡ true → k < n) → length ps ≤ n
+few_pages zero [] apart low = omega arith
+few_pages zero (p ∷ ps) apart low = absurd (let under = low p (or_left (eqb p p) (has p ps) (eq-eqb p p refl)) in omega arith)
+few_pages (suc n) ps apart low =
+    let rest = few_pages n (without n ps) (distinct_filter (λ other. not (eqb other n)) ps apart) (λ k there. less k there (low k (has_with n k ps there))) in
+    let one = one_less n ps apart in
+    omega arith
+  where
+    less : (k : ℕ) → has k (without n ps) ≡ true → k < suc n → k < n
+    less k there under = elim (cases_eq k n) [
+      | inl same ↦ false-true (sym (has_not n ps) ∙ subst (λ j. has j (without n ps) ≡ true) same there)
+      | inr off ↦ omega arith
+    ]
+
+-- ---- the count of a page of the host's
+
+module _ (pages harts : ℕ) (words : List ℕ) (t root : ℕ) (is_open : IsOpen pages harts words t root) (q before after : ℕ) (on : q < pages)
+    (was : get_or words q 0 ≡ host before) (counts : after ≡ shared_leaves pages words q) where
+  abbrev now : List ℕ
+  now = set words q (host after)
+
+  mine : AreOwned pages words t root
+  mine = is_open.owned t root is_open.root_is
+
+  size : 513 * pages ≤ length words
+  size = let is = is_open.size in omega arith
+
+  small : q < 2 ^ 16
+  small = let few = is_open.few in omega arith
+
+  other_page : (p : ℕ) → p ≢ q → get_or now p 0 ≡ get_or words p 0
+  other_page p off = get_or-set_other words q p (host after) 0 off
+
+  -- a leaf of a TVM that names the page shares it
+  leaf_shares : (u r g : ℕ) (shared : Bool) → AreOwned pages words u r → g < 2 ^ 29 → Names q shared (leaf_at pages r words g) → (shared ≡ true) × (0 < after)
+  leaf_shares u r g false owned low named = absurd (given_host u before Data (sym (owned.backed g q false low small named).1 ∙ was))
+  leaf_shares u r g true owned low named = let some = leaf_counts pages words r g q size (λ page link. (owned.linked (InMiddle (g / 512)) page (omega arith) link).0) low small named in (refl, omega arith)
+
+  -- the store is lawful
+  pub count_lawful : (hart : ℕ) (old : List ℕ) → IsLawful pages harts hart old words q (host after)
+  count_lawful hart old = Counts q before after on refl was refl (λ none u names. unnamed none u names)
+    where
+      unnamed : after ≡ 0 → (u : ℕ) → LeafNames pages words u q → ⊥
+      unnamed none u names =
+          let some = (leaf_shares u names.0 names.2.0 names.2.2.0 (is_open.owned u names.0 names.1) names.2.1 names.2.2.1).1 in
+          omega arith
+
+  -- page words that give a page to a TVM stay
+  given_stays : (p u : ℕ) (role : Role) → get_or words p 0 ≡ given u role → get_or now p 0 ≡ given u role
+  given_stays p u role is = other_page p (λ e. given_host u before role (sym is ∙ ap (λ k. get_or words k 0) e ∙ was)) ∙ is
+
+  given_was : (p u : ℕ) (role : Role) → get_or now p 0 ≡ given u role → get_or words p 0 ≡ given u role
+  given_was p u role is = elim (cases_eq p q) [
+    | inl same ↦ absurd (given_host u after role (sym is ∙ ap (λ k. get_or now k 0) same ∙ get_or-set_same words q (host after) 0 (let long = size in omega arith)))
+    | inr off ↦ sym (other_page p off) ∙ is
+  ]
+
+  entries : (b : Slot) → IsSlot b → entry_at pages root now b ≡ entry_at pages root words b
+  entries =
+      entries_stay pages root words q (host after)
+      (λ b slot at.
+      let own = stands_in pages words t root mine b q slot at in
+      let is : q ≡ table_word pages own.page own.i = own.at in
+      omega arith)
+
+  root_was : (u r : ℕ) → IsRoot pages now u r → IsRoot pages words u r
+  root_was u r is = record {
+    fits = is.fits;
+    roots = λ i low. given_was (r + i) u Root (is.roots i low);
+    least = λ p low e. is.least p low (given_stays p u Root e);
+  }
+
+  behind_again : (u r : ℕ) → AreOwned pages words u r → (g : ℕ) (shared : Bool) → g < 2 ^ 29 → Names q shared (leaf_at pages r words g)
+      → IsBehind words u q shared → IsBehind now u q shared
+  behind_again u r owned g false low named behind = absurd (given_host u before Data (sym behind ∙ was))
+  behind_again u r owned g true low named behind =
+      (after, (leaf_shares u r g true owned low named).1, get_or-set_same words q (host after) 0 (let long = size in omega arith))
+
+  owned_now : (u r : ℕ) → IsRoot pages now u r → AreOwned pages now u r
+  owned_now u r is =
+      let owned = is_open.owned u r (root_was u r is) in
+      page_stored pages words u r owned q (host after) on
+      (λ e. given_host u before Root (sym e ∙ was)) (λ e. given_host u after Root (sym e)) (λ e. given_host u before Table (sym e ∙ was))
+      (behind_again u r owned) (let long = size in omega arith)
+
+  tree_now : IsTree pages root now
+  tree_now = record {
+    fits = is_open.tree.fits;
+    size = subst (λ n. 513 * pages ≤ n) (sym (length-set words q (host after))) is_open.tree.size;
+    links = λ b h. subst (IsLink pages root) (sym (same b h)) (is_open.tree.links b h);
+    leaves = λ g h. subst IsLeaf (sym (entries (InLast g) h)) (is_open.tree.leaves g h);
+    apart = λ b c p hb hc nb nc. is_open.tree.apart b c p hb hc (sym (same b hb) ∙ nb) (sym (same c hc) ∙ nc);
+  } where
+    same : (b : Slot) → IsLinkSlot b → entry_at pages root now b ≡ entry_at pages root words b
+    same (InRoot n) h = entries (InRoot n) h
+    same (InMiddle n) h = entries (InMiddle n) h
+    same (InLast g) h = absurd h
+
+  pub link_same : (b : Slot) → IsLinkSlot b → entry_at pages root now b ≡ entry_at pages root words b
+  link_same (InRoot n) h = entries (InRoot n) h
+  link_same (InMiddle n) h = entries (InMiddle n) h
+  link_same (InLast g) h = absurd h
+
+  past : (k : ℕ) → pages ≤ k → get_or now k 0 ≡ get_or words k 0
+  past k high = get_or-set_other words q k (host after) 0 (omega arith)
+
+  pub now_open : IsOpen pages harts now t root
+  now_open = record {
+    few = is_open.few;
+    size = length-set words q (host after) ∙ is_open.size;
+    left = λ hart h-on inside. is_open.left hart h-on (inside.0, (inside.1.0, sym (past (hart_word pages harts hart) (omega arith)) ∙ inside.1.1));
+    root_is = record {
+      fits = is_open.root_is.fits;
+      roots = λ i low. given_stays (root + i) t Root (is_open.root_is.roots i low);
+      least = λ p low e. is_open.root_is.least p low (given_was p t Root e);
+    };
+    tree = tree_now;
+    owned = owned_now;
+    once = λ g h p low high p-on first second. is_open.once g h p low high p-on (subst (Names p false) (entries (InLast g) low) first) (subst (Names p false) (entries (InLast h) high) second);
+  }
+
+  pub now_gathered : (pool : List ℕ) → AreGathered pages words t root pool → AreGathered pages now t root pool
+  now_gathered pool gathered = record {
+    differ = gathered.differ;
+    on_board = gathered.on_board;
+    own = λ p there. elim (gathered.own p there) [ inl is ↦ inl (given_stays p t Table is) | inr is ↦ inr (given_stays p t Data is) ];
+    empty = λ p i there is low. past (table_word pages p i) (omega arith) ∙ gathered.empty p i there (given_was p t Table is) low;
+    unlinked = λ b p link named. gathered.unlinked b p link (sym (link_same b link) ∙ named);
+    unmapped = λ g p low p-on named. gathered.unmapped g p low p-on (subst (Names p false) (entries (InLast g) low) named);
+    tables = λ p p-on is. elim (gathered.tables p p-on (given_was p t Table is)) [
+      | inl there ↦ inl there
+      | inr linked ↦ inr (linked.0, linked.1, link_same linked.0 linked.1 ∙ linked.2)
+    ];
+    memory = λ p p-on is. elim (gathered.memory p p-on (given_was p t Data is)) [
+      | inl there ↦ inl there
+      | inr mapped ↦ inr (mapped.0, mapped.1, subst (Names p false) (sym (entries (InLast mapped.0) mapped.1)) mapped.2)
+    ];
+  }
+
+  shares_same : (p : ℕ) → shared_leaves pages now p ≡ shared_leaves pages words p
+  shares_same p = (stores_count_shared pages harts words p is_open.size).2 q (host after) (inl on)
+
+  -- every page counts, where the others did
+  pub now_counted : ((p maps : ℕ) → p < pages → p ≢ q → get_or words p 0 ≡ host maps → maps ≡ shared_leaves pages words p) → AreCounted pages now
+  now_counted others p maps p-on is = elim (cases_eq p q) [
+    | inl same ↦
+        let here : host maps ≡ host after = sym is ∙ ap (λ k. get_or now k 0) same ∙ get_or-set_same words q (host after) 0 (let long = size in omega arith) in
+        let count = shares_same p in
+        let own = ap (shared_leaves pages words) same in
+        omega arith
+    | inr off ↦
+        let count = shares_same p in
+        let was_counted = others p maps p-on off (sym (other_page p off) ∙ is) in
+        omega arith
+  ]
+
+  pub now_clears : Clears pages words now t
+  now_clears = record {
+    size = length-set words q (host after);
+    tables = λ p i p-on low. inl (past (table_word pages p i) (omega arith));
+    page = λ p p-on. elim (cases_eq p q) [
+      | inl same ↦ inr (before, after, ap (λ k. get_or words k 0) same ∙ was, ap (λ k. get_or now k 0) same ∙ get_or-set_same words q (host after) 0 (let long = size in omega arith))
+      | inr off ↦ inl (other_page p off)
+    ];
+    behind = λ k high. past k (omega arith);
+  }

@@ -1,0 +1,3 @@
+mod Zeroing
+pub mod Counting
+pub mod Going
