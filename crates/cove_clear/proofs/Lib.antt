@@ -1,3 +1,4 @@
+mod ExampleProofs
 mod Zeroing
 pub mod Counting
 pub mod Going

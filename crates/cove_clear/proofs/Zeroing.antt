@@ -29,7 +29,7 @@ pub one_named : (p q : ℕ) (s r : Bool) (leaf : ℕ) → p < 2 ^ 16 → q < 2 ^
 one_named p q s r leaf lp lq named (ByPresent is) = present_named p s leaf q r is named
 one_named p q s r leaf lp lq named (ByBlocked since is) = blocked_named p s leaf q r since lp lq is named
 
-one_has : (x p : ℕ) → has p (x ∷ []) ≡ true → x ≡ p
+pub one_has : (x p : ℕ) → has p (x ∷ []) ≡ true → x ≡ p
 one_has x p e = elim (or_cases (eqb x p) (has p []) e) [
   | inl here ↦ eqb-true x p here
   | inr there ↦ absurd (true≢false (sym there))

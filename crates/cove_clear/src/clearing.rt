@@ -3,7 +3,7 @@
 //! Each entry is cleared after what is under it, and what it named is gathered in the pool, which has room for every page of the
 //! board: so each page of the TVM is found again once no entry names it, and none is released while one does.
 
-ghost use Rattle.std.specs.Prelude.{◌≡◌, ◌%◌, ◌/◌, ◌^◌, ◌<◌, ℕ, List, false, slice_index, slice_set, true};
+ghost use Rattle.std.specs.Prelude.{◌≡◌, ◌%◌, ◌/◌, ◌^◌, ◌<◌, ℕ, false, slice_index, slice_set, true};
 ghost use Rattle.cove_base.specs.PageWords.{host};
 ghost use Rattle.cove_base.specs.Places.{table_word};
 ghost use Rattle.cove_base.specs.Tables.{InMiddle, InRoot, IsLeaf, entry_at, next_table};

@@ -7,5 +7,7 @@
 //! word changes (`proceeds`). It stands on `Words` and on the pool of `cove_stage2`, and knows no ground.
 
 mod clearing;
+mod examples;
 
 pub use clearing::clear_tables;
+pub use examples::{worked_clearing, worked_gathering, worked_going, worked_leaving};
