@@ -38,8 +38,7 @@ pub fn worked_giving()
     ensures memory { memory_stores 1 0x4000 2 ≡ (4, 98) ∷ (5, 98) ∷ [] }
 {}
 
-/// More table pages stand behind those of the pool, each of them, whose room stays, and nothing else of the TVM changes; a
-/// region stands behind the others.
+/// More table pages stand behind those of the pool, and a region behind the others; nothing else of the TVM changes.
 pub fn worked_growing()
     ensures pages { (tvm : Tvm)
         → AddsTables 0x4000 2 tvm (record tvm { pool = record { pages = tvm.pool.pages ++ 4 ∷ 5 ∷ []; room = tvm.pool.room } }) }
@@ -51,8 +50,7 @@ pub fn worked_growing()
     ensures region { (with_region 0x3000 0x2000 (new_tvm 1)).regions ≡ record { first = 3; count = 2 } ∷ [] }
 {}
 
-/// vCPU 2 starts at the place with its number in a0 and the argument in a1; it doesn't start elsewhere, with another number or
-/// stopped, and no vCPU comes or goes.
+/// vCPU 2 starts at the place with its number in a0 and the argument in a1, and no vCPU comes or goes.
 pub fn worked_starting()
     ensures starts { (old : VcpuSlot) (regs : Regs)
         → registers regs ≡ replicate 10 0 ++ 2 ∷ 7 ∷ replicate 20 0 → regs.pc ≡ 0x1000
@@ -65,8 +63,7 @@ pub fn worked_starting()
     ensures goes { (slot : VcpuSlot) → AreStarted 0x1000 7 2 (Some slot) None → ⊥ }
 {}
 
-/// TVM 1 is destroyed while TVM 2 shares the same page of the host's: its table is cleared and taken back, and the page counts
-/// the leaf of TVM 2, which keeps its table.
+/// TVM 1 is destroyed: its table is cleared and released, and the page that both shared counts the leaf that TVM 2 keeps.
 pub fn worked_destroying()
     ensures destroyed { Destroys 3 two_sharing (three_pages released (given 2 Table) (host 1) 0 (shared_leaf 2)) 1 }
     ensures page_left { Destroys 3 two_sharing (three_pages (given 1 Table) (given 2 Table) (host 1) 0 (shared_leaf 2)) 1 → ⊥ }

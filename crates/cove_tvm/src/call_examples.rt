@@ -50,8 +50,7 @@ pub fn worked_refusing()
         → Called hart call words new G (record G { kicked = G.kicked + 1 }) (only Denied) → ⊥ }
 {}
 
-/// An accepted creation that leaves the TVMs as they were is none; no call moves the count, lets a fence rise by two or answers
-/// for another hart.
+/// A creation that leaves the TVMs is none; no call moves the count, lets a fence rise by two or answers for another hart.
 pub fn worked_accepting()
     ensures no_tvm { (hart root state : ℕ) (words new : List ℕ) (G : Ground) (S : State) (reply : Reply) → IsMet S → Stands words G S
         → refusal_by (rule S hart (Create root state)) ≡ None → Called hart (Create root state) words new G G reply → ⊥ }

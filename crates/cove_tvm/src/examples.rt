@@ -13,11 +13,13 @@ ghost use Rattle.cove_tvm.specs.GroundLaws.{KeepsTvms};
 ghost use Rattle.cove_tvm.specs.KeptOwn.{KeepsTvm};
 ghost use Rattle.cove_tvm.specs.LeafStands.{LeafStands};
 ghost use Rattle.cove_tvm.specs.Leaves.{LeavesEveryTvm, LeavesTvm};
-ghost use Rattle.cove_tvm.specs.NewTvms.{MayCreate, create_stores};
+ghost use Rattle.cove_tvm.specs.NewTvms.{MayCreate, create_stores, with_new};
 ghost use Rattle.cove_tvm.specs.NewVcpus.{AddsCpu, IsNewCpu};
 ghost use Rattle.cove_tvm.specs.OneTvm.{KeepsMappings, LeavesOthers, StandsAt};
+ghost use Rattle.cove_tvm.specs.Slots.{slot_at};
 ghost use Rattle.cove_tvm.specs.Stands.{Stands};
 ghost use Rattle.cove_tvm.specs.StateExamples.{on_vcpu};
+ghost use Rattle.cove_tvm.specs.TvmLends.{with_tvm};
 ghost use Rattle.cove_tvm.specs.TvmTables.{live_at};
 ghost use Rattle.cove_tvm.specs.declared.ground.Ground.{Ground};
 ghost use Rattle.cove_tvm.specs.declared.machines.Life.TheVariants.{Gone, Runnable};
@@ -30,6 +32,9 @@ pub fn worked_numbers()
     ensures gone { (tvm : Tvm) → tvm.life ≡ Gone → live_at (just tvm) 1 ≡ None }
     ensures zero { (tvm : Tvm) → live_at (just tvm) 0 ≡ None }
     ensures other { (tvm : Tvm) → live_at (just tvm) 2 ≡ None }
+    ensures added { (tvm new : Tvm) → new.life ≡ Runnable → live_at (with_new (just tvm) new) 2 ≡ Some new }
+    ensures written { (tvm new : Tvm) → new.life ≡ Runnable → live_at (with_tvm (just tvm) 0 new) 1 ≡ Some new }
+    ensures past { (tvm new : Tvm) → with_tvm (just tvm) 1 new ≡ just tvm }
 {}
 
 /// Of two harts inside, the one that is inside TVM 1 entered with the number 3, and what began to wait then waits for it.
@@ -82,6 +87,7 @@ pub fn worked_adding()
     ensures other { (tvm : Tvm) (slot : VcpuSlot) → tvm.v1 ≡ None → AddsCpu 1 5 tvm (record tvm { v2 = Some slot }) → ⊥ }
     ensures changed { (tvm : Tvm) (slot : VcpuSlot) → tvm.v2 ≡ None
         → AddsCpu 1 5 tvm (record tvm { v1 = Some slot; v2 = Some slot }) → ⊥ }
+    ensures fifth { (tvm : Tvm) → slot_at tvm 4 ≡ None }
 {}
 
 /// A change of owners leaves all that TVMs are; finalizing a TVM keeps its number and its mappings.
@@ -93,8 +99,7 @@ pub fn worked_changes()
     ensures unmapped { KeepsMappings (λ tvm. record tvm { mappings = [] }) → ⊥ }
 {}
 
-/// A call on TVM 1 that changes nothing leaves the others, and what stands for all stands for its part; one that takes TVM 2
-/// away, moves a hart or leaves a kick doesn't.
+/// A call on TVM 1 that changes nothing leaves the others; one that takes TVM 2 away, moves a hart or leaves a kick doesn't.
 pub fn worked_others()
     ensures same { (words : List ℕ) (G : Ground) (S : State) → LeavesOthers 1 words words G G.tvms S S }
     ensures taken { (words : List ℕ) (G : Ground) (S : State) (tvm : Tvm) → live_at G.tvms 2 ≡ Some tvm

@@ -12,7 +12,7 @@ ghost use Rattle.cove_tvm.specs.PrivateRuns.{MayGrow};
 ghost use Rattle.cove_tvm.specs.SharedRuns.{MayShare};
 ghost use Rattle.cove_tvm.specs.Stands.{Stands};
 
-/// Words and ground stand for the state after each call, and no longer for the one before it.
+/// Words and ground stand for the state after each call; the words before it do not.
 pub fn worked_life()
     ensures freed { Stands freed_words nine_ground freed }
     ensures created { (tables : Tables) → tables.root.0 ≡ 4 → tables.pages ≡ 9 → Stands created_words (created_ground tables) created }
@@ -31,8 +31,7 @@ pub fn worked_gifts()
     ensures to_none { (tables : Tables) → MayGive created_words (created_ground tables) created 1 0 2 (begun tables) (new_tvm 1) → ⊥ }
 {}
 
-/// With two tables it may have guest page 9 at a free page, or shared at a page of the host's; without tables, or the other way
-/// round, it may not.
+/// With two tables it may have guest page 9 at a free page, or shared at a page of the host's; without tables it may not.
 pub fn worked_growth()
     ensures own { (tables : Tables) → tables.root.0 ≡ 4 → tables.pages ≡ 9
         → MayGrow supplied_words (supplied_ground tables) supplied 0 0x2000 1 0x9000 (supplied_tvm tables) supplied_model }

@@ -33,8 +33,7 @@ pub fn worked_raising()
     ensures longer { RaisesCounts 1 1 (host 0 ∷ host 4 ∷ []) (host 0 ∷ host 5 ∷ 0 ∷ []) → ⊥ }
 {}
 
-/// Guest page 9 may be mapped to a page of the TVM's own, or to one of the host's as shared, where two pages for tables are
-/// spare and it has no leaf yet.
+/// Guest page 9 may be mapped to an own page, or shared at one of the host's, with two spare tables and no leaf yet.
 pub fn worked_runs_to_map()
     ensures own { MayMap 8 1 mappable 1 4 (0 ∷ 1 ∷ []) 9 2 1 false }
     ensures shared { MayMap 8 1 mappable 1 4 (0 ∷ 1 ∷ []) 9 3 1 true }
@@ -44,8 +43,7 @@ pub fn worked_runs_to_map()
     ensures mapped_before { MayMap 8 1 nine_mapped 1 4 [] 9 2 1 false → ⊥ }
 {}
 
-/// Guest page 9 is mapped by three stores, which take both spare pages; a leaf that lacks, a second leaf or table, a page word
-/// that changes or a table that is spare still is not what a mapping leaves.
+/// Three stores map guest page 9 and take both spare pages; no other leaf, link or page word changes.
 pub fn worked_mapping()
     ensures none_yet { AreMapped 8 1 1 4 9 2 1 0 false mappable (0 ∷ 1 ∷ []) mappable (0 ∷ 1 ∷ []) }
     ensures one { AreMapped 8 1 1 4 9 2 1 1 false mappable (0 ∷ 1 ∷ []) nine_mapped [] }
@@ -56,8 +54,7 @@ pub fn worked_mapping()
     ensures spare_yet { AreMapped 8 1 1 4 9 2 1 1 false mappable (0 ∷ 1 ∷ []) nine_mapped (0 ∷ []) → ⊥ }
 {}
 
-/// The stores of a mapping link its way, write its leaf and take the pages from the pool; without the leaf, or with a page that
-/// stays in the pool, they are another's.
+/// The stores of a mapping link its way, write its leaf and take the pages of the tables from the pool.
 pub fn worked_next_mapping()
     ensures next { MapsNext 8 4 9 2 0 false mappable (0 ∷ 1 ∷ []) nine_mapped [] }
     ensures no_leaf { MapsNext 8 4 9 2 0 false mappable (0 ∷ 1 ∷ []) nine_linked [] → ⊥ }

@@ -21,8 +21,7 @@ ghost use Rattle.cove_tvm.specs.VcpuStands.{BindingStands, RunStands, UnbindingS
 ghost use Rattle.cove_tvm.specs.declared.vcpus.RunState.TheVariants.{Ready, Running, Stopped};
 ghost use Rattle.cove_tvm.specs.declared.vcpus.VcpuSlot.{VcpuSlot};
 
-/// A TVM that was just created stands for a new one, and for none that is finalized, lets the host inject, or has a vCPU; a page
-/// that is given to it and that it doesn't find, or words of another TVM, stand for none.
+/// A TVM that was just created stands for a new one, where each page that is given to it is found.
 pub fn worked_living()
     ensures new { (seats : ℕ → Option Seat) (files : FileTable) (tables : Tables) → tables.root.0 ≡ 4 → tables.pages ≡ 9
         → LiveStands 9 1 begun_words 1 seats files (begun tables) (new_tvm 1) }
@@ -37,8 +36,7 @@ pub fn worked_living()
     ensures another { (files : FileTable) (tables : Tables) → LiveStands 9 1 begun_words 2 nowhere files (begun tables) (new_tvm 2) → ⊥ }
 {}
 
-/// A leaf that is blocked since the number 3 of TVM 1, whose number is 4, may be used by hart 0, which entered with 3, and waits
-/// for it.
+/// A leaf that is blocked since the number 3 of TVM 1 may be used by hart 0, which entered with 3, and waits for it.
 pub fn worked_blocking()
     ensures since { BlockedStands 0 2 two_inside 1 (present 5 false) (blocked (present 5 false) 3) (0 ∷ []) (Some (0 ∷ [])) }
     ensures hart_outside { BlockedStands 0 2 two_inside 1 (present 5 false) (blocked (present 5 false) 3) (1 ∷ []) (Some (0 ∷ [])) → ⊥ }

@@ -1,4 +1,4 @@
-use Rattle.std.proofs.Common.{◌≡◌, ◌≢◌, ◌∙◌, ◌↔◌, ℕ, ◌<◌, ◌+◌, zero, suc, ◌/◌, ◌%◌, ◌^◌, false, cond, eqb, ltb, List, ◌∷◌, get_or, get_or-set_other, length-set, set, sym, ap, inl, inr, arith, ◌≤◌, refl, ◌*◌}
+use Rattle.std.proofs.Common.{◌≡◌, ◌≢◌, ◌∙◌, ◌↔◌, ℕ, ◌<◌, zero, suc, ◌/◌, ◌%◌, ◌^◌, false, cond, eqb, ltb, List, ◌∷◌, get_or, get_or-set_other, length-set, set, sym, ap, inl, inr, arith, ◌≤◌, refl}
 use Rattle.cove_base.specs.PageWords.{given}
 use Rattle.cove_base.specs.Places.{epoch_word, hart_word, tvm_word}
 use Rattle.cove_base.specs.declared.numbers.Role.{Role}
