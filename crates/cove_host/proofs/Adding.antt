@@ -10,10 +10,10 @@ use Rattle.cove_base.specs.declared.calls.HostCall.TheVariants.{Vcpu as VcpuCall
 use Rattle.cove_base.specs.declared.numbers.Role.TheVariants.{Vcpu}
 use Rattle.cove_base.specs.declared.statuses.Status.TheVariants.{Success}
 use Rattle.cove_host.proofs.PassedCalls.{AllPass, passed_call}
-use Rattle.cove_host.proofs.CheckedLemmas.{first_passes, passes}
+use Rattle.cove_host.proofs.CheckedLemmas.{each_passes}
 use Rattle.cove_host.proofs.LifeTold.{both_live}
 use Rattle.cove_tvm.specs.Called.{Called, IsReady}
-use Rattle.cove_host.specs.Checked.{all_checked, checked}
+use Rattle.cove_host.specs.Checked.{all_checked}
 use Rattle.cove_model.specs.Checks.{AllFree, CpuNumber, Inside, IsBuilding, Live, NoCpuYet}
 use Rattle.cove_model.specs.HostCalls.{rule}
 use Rattle.cove_model.specs.LawfulStores.{AllowsLawful, IsLawful}
@@ -31,35 +31,9 @@ use Rattle.cove_tvm.specs.TvmTables.{live_at}
 use Rattle.cove_tvm.specs.declared.ground.Ground.{Ground}
 use Rattle.cove_tvm.specs.declared.machines.Tvm.{Tvm}
 
--- the checks from each on
-abbrev pub from_aligned : State → (state : ℕ) → List Check
-from_aligned S state = Aligned state ∷ Inside S state 1 ∷ AllFree S state 1 ∷ []
-
-abbrev pub from_number : State → (t v state : ℕ) → List Check
-from_number S t v state = CpuNumber v ∷ NoCpuYet S t v ∷ from_aligned S state
-
+-- the checks of the call
 abbrev pub adding_checks : State → (t v state : ℕ) → List Check
-adding_checks S t v state = Live S t ∷ IsBuilding S t ∷ from_number S t v state
-
--- where the first, the first three, the first five or six pass, those after them answer
-pub one_passes : (S : State) (t v state : ℕ) (a : Unit {0}) → Ok a ≡ checked (Live S t)
-    → all_checked (adding_checks S t v state) ≡ all_checked (IsBuilding S t ∷ from_number S t v state)
-one_passes S t v state a first = passes (Live S t) (IsBuilding S t ∷ from_number S t v state) (Ok a) a first refl
-
-pub three_pass : (S : State) (t v state : ℕ) (a b c : Unit {0}) → Ok a ≡ checked (Live S t) → Ok b ≡ checked (IsBuilding S t) → Ok c ≡ checked (CpuNumber v)
-    → all_checked (adding_checks S t v state) ≡ all_checked (NoCpuYet S t v ∷ from_aligned S state)
-three_pass S t v state a b c first second third =
-    one_passes S t v state a first
-    ∙ passes (IsBuilding S t) (from_number S t v state) (Ok b) b second refl
-    ∙ passes (CpuNumber v) (NoCpuYet S t v ∷ from_aligned S state) (Ok c) c third refl
-
-pub five_pass : (S : State) (t v state : ℕ) (a b c d e : Unit {0}) → Ok a ≡ checked (Live S t) → Ok b ≡ checked (IsBuilding S t) → Ok c ≡ checked (CpuNumber v)
-    → Ok d ≡ checked (NoCpuYet S t v) → Ok e ≡ checked (Aligned state)
-    → all_checked (adding_checks S t v state) ≡ all_checked (Inside S state 1 ∷ AllFree S state 1 ∷ [])
-five_pass S t v state a b c d e first second third fourth fifth =
-    three_pass S t v state a b c first second third
-    ∙ passes (NoCpuYet S t v) (from_aligned S state) (Ok d) d fourth refl
-    ∙ passes (Aligned state) (Inside S state 1 ∷ AllFree S state 1 ∷ []) (Ok e) e fifth refl
+adding_checks S t v state = Live S t ∷ IsBuilding S t ∷ CpuNumber v ∷ NoCpuYet S t v ∷ Aligned state ∷ Inside S state 1 ∷ AllFree S state 1 ∷ []
 
 no_cpu : (x : Option Cpu) → is_some x ≡ false → x ≡ None
 no_cpu None e = refl
@@ -78,23 +52,19 @@ record Passed (words : List ℕ) (G : Ground) (S : State) (t v state : ℕ) : Ty
 passed : (words : List ℕ) (G : Ground) (S : State) (t v state : ℕ) (u : Unit {0}) → Stands words G S → all_checked (adding_checks S t v state) ≡ Ok u
     → Passed words G S t v state
 passed words G S t v state u stands e =
-    let one = first_passes (Live S t) (IsBuilding S t ∷ from_number S t v state) u e in
-    let two = first_passes (IsBuilding S t) (from_number S t v state) u one.1 in
-    let three = first_passes (CpuNumber v) (NoCpuYet S t v ∷ from_aligned S state) u two.1 in
-    let four = first_passes (NoCpuYet S t v) (from_aligned S state) u three.1 in
-    let five = first_passes (Aligned state) (Inside S state 1 ∷ AllFree S state 1 ∷ []) u four.1 in
-    let six = first_passes (Inside S state 1) (AllFree S state 1 ∷ []) u five.1 in
-    let seven = first_passes (AllFree S state 1) [] u six.1 in
-    let both = both_live words G S t (live_at G.tvms t) (find_tvm S t) (stands.tvm t) one.0 in
+    let all = each_passes (adding_checks S t v state) u e in
+    let from_cpu = all.1.1.1 in
+    let from_inside = from_cpu.1.1 in
+    let both = both_live words G S t (live_at G.tvms t) (find_tvm S t) (stands.tvm t) all.0 in
     let long = stands.words_stand.stands.owners.page_count in
     record {
       old = both.0;
       model = both.1;
       live = both.2;
       found = both.3;
-      none = no_cpu (find_cpu both.1 v) (ap (λ x. is_some (find_cpu (unwrap_or x (new_tvm t)) v)) (sym both.3) ∙ four.0);
-      inside = subst (λ n. state / 4096 + 1 ≤ n) long (ltb-false (length S.pages) (state / 4096 + 1) six.0);
-      free = not-false (every is_free (state / 4096) 1 S.pages) seven.0;
+      none = no_cpu (find_cpu both.1 v) (ap (λ x. is_some (find_cpu (unwrap_or x (new_tvm t)) v)) (sym both.3) ∙ from_cpu.0);
+      inside = subst (λ n. state / 4096 + 1 ≤ n) long (ltb-false (length S.pages) (state / 4096 + 1) from_inside.0);
+      free = not-false (every is_free (state / 4096) 1 S.pages) from_inside.1.0;
     }
 
 module _ (words : List ℕ) (G : Ground) (hart v state : ℕ) (ready : IsReady words G) where

@@ -1,5 +1,5 @@
 -- What checks in their order answer.
-use Rattle.std.proofs.Common.{◌≡◌, ◌∙◌, Bool, true, false, cond, List, [], ◌∷◌, ◌++◌, Option, Some, None, Result, Ok, Err, refl, sym, ap, arith}
+use Rattle.std.proofs.Common.{◌≡◌, ◌∙◌, ℕ, zero, suc, Bool, true, false, cond, List, [], ◌∷◌, Option, Some, None, Result, Ok, Err, refl, sym, ap, arith}
 use Rattle.std.proofs.lemmas.Result.{err_from_is_err_and}
 use Rattle.std.specs.List.{AllByRecursion}
 use Rattle.std.specs.Prelude.{IsErrAnd}
@@ -64,19 +64,36 @@ one_fails [] reply e = absurd cc
 one_fails (check ∷ checks) reply e =
     failed_first check.fails (record { status = check.status; value = check.value }) reply (all_checked checks) (first_failing checks) (one_fails checks reply) e
 
+-- the first checks of a list pass, as many as a number says
+abbrev pub FrontPasses : ℕ → List Check → Type 0
+FrontPasses zero checks = Unit {0}
+FrontPasses (suc n) [] = Unit {0}
+FrontPasses (suc n) (check ∷ checks) = (Ok tt ≡ checked check) × FrontPasses n checks
+
+-- the checks after those
+abbrev pub rest_after : ℕ → List Check → List Check
+rest_after zero checks = checks
+rest_after (suc n) [] = []
+rest_after (suc n) (check ∷ checks) = rest_after n checks
+
+-- what the first check of a list answers
+abbrev pub next_checked : List Check → Answer
+next_checked [] = passed
+next_checked (check ∷ checks) = checked check
+
+next_fails : (checks : List Check) (reply : Reply) → Err reply ≡ next_checked checks → all_checked checks ≡ Err reply
+next_fails [] reply e = absurd cc
+next_fails (check ∷ checks) reply e = fails check checks (Err reply) reply e refl
+
 -- where the first checks pass, those after them answer
-pub front_passes : (front rest : List Check) → AllByRecursion (λ check. (u : Unit {0}) × (Ok u ≡ checked check)) front → all_checked (front ++ rest) ≡ all_checked rest
-front_passes [] rest all = refl
-front_passes (check ∷ front) rest all = passes check (front ++ rest) (Ok all.0.0) all.0.0 all.0.1 refl ∙ front_passes front rest all.1
+pub front_passes : (n : ℕ) (checks : List Check) → FrontPasses n checks → all_checked checks ≡ all_checked (rest_after n checks)
+front_passes zero checks all = refl
+front_passes (suc n) [] all = refl
+front_passes (suc n) (check ∷ checks) all = passes check checks (Ok tt) tt all.0 refl ∙ front_passes n checks all.1
 
--- and the next one where it fails
-pub then_fails : (front : List Check) (check : Check) (rest : List Check) (reply : Reply) → AllByRecursion (λ one. (u : Unit {0}) × (Ok u ≡ checked one)) front
-    → Err reply ≡ checked check → all_checked (front ++ check ∷ rest) ≡ Err reply
-then_fails front check rest reply all e = front_passes front (check ∷ rest) all ∙ fails check rest (Err reply) reply e refl
-
--- what is returned there
-pub stops : {r : Answer} {reply : Reply} (front : List Check) (check : Check) (rest : List Check) → IsErrAnd r (λ said. said ≡ reply)
-    → AllByRecursion (λ one. (u : Unit {0}) × (Ok u ≡ checked one)) front → Err reply ≡ checked check → r ≡ all_checked (front ++ check ∷ rest)
-stops {r} {reply} front check rest is all e =
+-- what is returned where the next one fails
+pub stops : {r : Answer} {reply : Reply} (n : ℕ) (checks : List Check) → IsErrAnd r (λ said. said ≡ reply) → FrontPasses n checks
+    → Err reply ≡ next_checked (rest_after n checks) → r ≡ all_checked checks
+stops {r} {reply} n checks is all e =
     let said = err_from_is_err_and r is in
-    said.1 ∙ ap Err said.2 ∙ sym (then_fails front check rest reply all e)
+    said.1 ∙ ap Err said.2 ∙ sym (front_passes n checks all ∙ next_fails (rest_after n checks) reply e)

@@ -9,7 +9,7 @@ use Rattle.cove_base.specs.Stores.{AllAllowed, stored}
 use Rattle.cove_base.specs.declared.calls.HostCall.TheVariants.{Convert}
 use Rattle.cove_base.specs.declared.statuses.Status.TheVariants.{Success}
 use Rattle.cove_host.proofs.AcceptedCalls.{accepts}
-use Rattle.cove_host.proofs.CheckedLemmas.{first_passes, none_fails}
+use Rattle.cove_host.proofs.CheckedLemmas.{each_passes, none_fails}
 use Rattle.cove_host.proofs.Creating.{stays_within}
 use Rattle.cove_host.proofs.SharedPages.{in_run, unshared_words}
 use Rattle.cove_tvm.specs.Called.{Called, IsReady}
@@ -26,11 +26,8 @@ use Rattle.cove_tvm.proofs.OwnerCalls.{ground_converts}
 use Rattle.cove_tvm.specs.Stands.{Stands}
 use Rattle.cove_tvm.specs.declared.ground.Ground.{Ground}
 
-abbrev pub from_host : State → (base n : ℕ) → List Check
-from_host S base n = AllHost S base n ∷ NoneShared S base n ∷ []
-
 abbrev pub convert_checks : State → (base n : ℕ) → List Check
-convert_checks S base n = Count n ∷ Aligned base ∷ Inside S base n ∷ from_host S base n
+convert_checks S base n = Count n ∷ Aligned base ∷ Inside S base n ∷ AllHost S base n ∷ NoneShared S base n ∷ []
 
 -- what is known of a convert that all checks let pass
 record Passed (G : Ground) (S : State) (base n : ℕ) : Type 0 where
@@ -43,16 +40,12 @@ module _ (words : List ℕ) (G : Ground) (hart base n : ℕ) (ready : IsReady wo
   passed : (S : State) → Stands words G S → Passed G S base n
   passed S stands =
       let all = told S stands in
-      let one = first_passes (Count n) (Aligned base ∷ Inside S base n ∷ from_host S base n) all.0 (sym all.1) in
-      let two = first_passes (Aligned base) (Inside S base n ∷ from_host S base n) all.0 one.1 in
-      let three = first_passes (Inside S base n) (from_host S base n) all.0 two.1 in
-      let four = first_passes (AllHost S base n) (NoneShared S base n ∷ []) all.0 three.1 in
-      let five = first_passes (NoneShared S base n) [] all.0 four.1 in
+      let from_inside = (each_passes (convert_checks S base n) all.0 (sym all.1)).1.1 in
       let long = stands.words_stand.stands.owners.page_count in
       record {
-        inside = subst (λ pages. base / 4096 + n ≤ pages) long (ltb-false (length S.pages) (base / 4096 + n) three.0);
-        hosts = not-false (every is_host (base / 4096) n S.pages) four.0;
-        unshared = five.0;
+        inside = subst (λ pages. base / 4096 + n ≤ pages) long (ltb-false (length S.pages) (base / 4096 + n) from_inside.0);
+        hosts = not-false (every is_host (base / 4096) n S.pages) from_inside.1.0;
+        unshared = from_inside.1.1.0;
       }
 
   here : Passed G ready.state base n

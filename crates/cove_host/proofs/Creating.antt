@@ -11,10 +11,10 @@ use Rattle.cove_base.specs.declared.limits.TheConstants.{ENTRY_LIMIT, TVM_LIMIT}
 use Rattle.cove_base.specs.declared.numbers.Role.TheVariants.{Root, State}
 use Rattle.cove_base.specs.declared.statuses.Reply.{Reply}
 use Rattle.cove_base.specs.declared.statuses.Status.TheVariants.{Success}
-use Rattle.cove_host.proofs.CheckedLemmas.{first_passes, none_fails, one_fails, passes}
+use Rattle.cove_host.proofs.CheckedLemmas.{each_passes, none_fails, one_fails}
 use Rattle.cove_host.proofs.ReadyWords.{fences_within}
 use Rattle.cove_tvm.specs.Called.{Called, IsReady}
-use Rattle.cove_host.specs.Checked.{all_checked, checked}
+use Rattle.cove_host.specs.Checked.{all_checked}
 use Rattle.cove_model.specs.Checks.{AllFree, Inside, RoomForTvm, RootAligned, StateApart}
 use Rattle.cove_model.specs.HostCalls.{rule}
 use Rattle.cove_model.specs.LawfulStores.{AllowsLawful, IsLawful}
@@ -30,60 +30,26 @@ use Rattle.cove_tvm.specs.TvmTables.{IsNewTvm, TvmTable}
 use Rattle.cove_tvm.specs.declared.ground.Ground.{Ground}
 use Rattle.cove_tvm.specs.declared.machines.Tvm.{Tvm}
 
--- the checks from each on
-abbrev pub from_free : MonitorState → (root state : ℕ) → List Check
-from_free S root state = AllFree S root 4 ∷ AllFree S state 1 ∷ []
-
-abbrev from_apart : MonitorState → (root state : ℕ) → List Check
-from_apart S root state = StateApart root state ∷ from_free S root state
-
-abbrev from_state : MonitorState → (root state : ℕ) → List Check
-from_state S root state = Inside S state 1 ∷ from_apart S root state
-
-abbrev from_root : MonitorState → (root state : ℕ) → List Check
-from_root S root state = Inside S root 4 ∷ from_state S root state
-
-abbrev from_aligned : MonitorState → (root state : ℕ) → List Check
-from_aligned S root state = Aligned state ∷ from_root S root state
-
-abbrev from_second : MonitorState → (root state : ℕ) → List Check
-from_second S root state = RootAligned root ∷ from_aligned S root state
-
+-- the checks of the call
 abbrev pub creation_checks : MonitorState → (root state : ℕ) → List Check
-creation_checks S root state = RoomForTvm S ∷ from_second S root state
-
--- where the first six pass, those of free pages answer
-pub six_pass : (S : MonitorState) (root state : ℕ) (a b c d e f : Unit {0}) → Ok a ≡ checked (RoomForTvm S) → Ok b ≡ checked (RootAligned root)
-    → Ok c ≡ checked (Aligned state) → Ok d ≡ checked (Inside S root 4) → Ok e ≡ checked (Inside S state 1) → Ok f ≡ checked (StateApart root state)
-    → all_checked (creation_checks S root state) ≡ all_checked (from_free S root state)
-six_pass S root state a b c d e f room first second third fourth fifth =
-    passes (RoomForTvm S) (from_second S root state) (Ok a) a room refl
-    ∙ passes (RootAligned root) (from_aligned S root state) (Ok b) b first refl
-    ∙ passes (Aligned state) (from_root S root state) (Ok c) c second refl
-    ∙ passes (Inside S root 4) (from_state S root state) (Ok d) d third refl
-    ∙ passes (Inside S state 1) (from_apart S root state) (Ok e) e fourth refl
-    ∙ passes (StateApart root state) (from_free S root state) (Ok f) f fifth refl
+creation_checks S root state =
+    RoomForTvm S ∷ RootAligned root ∷ Aligned state ∷ Inside S root 4 ∷ Inside S state 1 ∷ StateApart root state ∷ AllFree S root 4 ∷ AllFree S state 1 ∷ []
 
 -- where all pass, a TVM may be created
 pub may_create : (words : List ℕ) (G : Ground) (S : MonitorState) (root state : ℕ) (u : Unit {0}) → Stands words G S
     → all_checked (creation_checks S root state) ≡ Ok u → MayCreate G.pages root state S
 may_create words G S root state u stands e =
-    let one = first_passes (RoomForTvm S) (from_second S root state) u e in
-    let two = first_passes (RootAligned root) (from_aligned S root state) u one.1 in
-    let three = first_passes (Aligned state) (from_root S root state) u two.1 in
-    let four = first_passes (Inside S root 4) (from_state S root state) u three.1 in
-    let five = first_passes (Inside S state 1) (from_apart S root state) u four.1 in
-    let six = first_passes (StateApart root state) (from_free S root state) u five.1 in
-    let seven = first_passes (AllFree S root 4) (AllFree S state 1 ∷ []) u six.1 in
-    let eight = first_passes (AllFree S state 1) [] u seven.1 in
+    let all = each_passes (creation_checks S root state) u e in
+    let from_inside = all.1.1.1 in
+    let from_apart = from_inside.1.1 in
     let long = stands.words_stand.stands.owners.page_count in
     record {
-      room = leb-false TVM_LIMIT S.made one.0;
-      root_inside = subst (λ n. root / 4096 + 4 ≤ n) long (ltb-false (length S.pages) (root / 4096 + 4) four.0);
-      state_inside = subst (λ n. state / 4096 + 1 ≤ n) long (ltb-false (length S.pages) (state / 4096 + 1) five.0);
-      apart = apart (root / 4096) (state / 4096) six.0;
-      root_free = not-false (every is_free (root / 4096) 4 S.pages) seven.0;
-      state_free = not-false (every is_free (state / 4096) 1 S.pages) eight.0;
+      room = leb-false TVM_LIMIT S.made all.0;
+      root_inside = subst (λ n. root / 4096 + 4 ≤ n) long (ltb-false (length S.pages) (root / 4096 + 4) from_inside.0);
+      state_inside = subst (λ n. state / 4096 + 1 ≤ n) long (ltb-false (length S.pages) (state / 4096 + 1) from_inside.1.0);
+      apart = apart (root / 4096) (state / 4096) from_apart.0;
+      root_free = not-false (every is_free (root / 4096) 4 S.pages) from_apart.1.0;
+      state_free = not-false (every is_free (state / 4096) 1 S.pages) from_apart.1.1.0;
     }
   where
     apart : (first place : ℕ) → (leb first place && ltb place (first + 4)) ≡ false → (place < first) ⊎ (first + 4 ≤ place)

@@ -26,19 +26,12 @@ use Rattle.cove_tvm.specs.Stands.{Stands}
 use Rattle.cove_tvm.specs.declared.ground.Ground.{Ground}
 use Rattle.cove_tvm.specs.declared.machines.Tvm.{Tvm}
 
--- ---- the checks from each on
-
-abbrev pub from_free : State → (t dst n gpa : ℕ) → List Check
-from_free S t dst n gpa = AllFree S dst n ∷ mapping_checks false S t gpa n
-
-abbrev pub from_host : State → (t src dst n gpa : ℕ) → List Check
-from_host S t src dst n gpa = AllHost S src n ∷ from_free S t dst n gpa
-
-abbrev pub from_counted : State → (t src dst n gpa : ℕ) → List Check
-from_counted S t src dst n gpa = Count n ∷ Aligned src ∷ Aligned dst ∷ Aligned gpa ∷ Inside S src n ∷ Inside S dst n ∷ from_host S t src dst n gpa
+-- ---- the checks
 
 abbrev pub measured_checks : State → (t src dst n gpa : ℕ) → List Check
-measured_checks S t src dst n gpa = Live S t ∷ IsBuilding S t ∷ from_counted S t src dst n gpa
+measured_checks S t src dst n gpa =
+    Live S t ∷ IsBuilding S t ∷ Count n ∷ Aligned src ∷ Aligned dst ∷ Aligned gpa ∷ Inside S src n ∷ Inside S dst n ∷ AllHost S src n ∷ AllFree S dst n
+    ∷ mapping_checks false S t gpa n
 
 -- ---- what they tell
 

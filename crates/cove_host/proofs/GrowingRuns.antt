@@ -34,17 +34,15 @@ use Rattle.cove_tvm.specs.UnmappedRuns.{MayMapIn}
 use Rattle.cove_tvm.specs.declared.ground.Ground.{Ground}
 use Rattle.cove_tvm.specs.declared.machines.Tvm.{Tvm}
 
--- ---- the checks of a call that maps one run, from each on
+-- ---- the checks of a call that maps one run
 
 -- the owner of each page passes a test
 abbrev pub AllAre : (test : Owner → Bool) → State → (base n : ℕ) → Check
 AllAre test S base n = plain (not (every test (base / 4096) n S.pages)) InvalidAddress
 
-abbrev pub from_count : (test : Owner → Bool) (shared : Bool) → State → (t base n gpa : ℕ) → List Check
-from_count test shared S t base n gpa = Count n ∷ Aligned base ∷ Aligned gpa ∷ Inside S base n ∷ AllAre test S base n ∷ mapping_checks shared S t gpa n
-
 abbrev pub run_checks : (test : Owner → Bool) (shared : Bool) → State → (t base n gpa : ℕ) → List Check
-run_checks test shared S t base n gpa = Live S t ∷ IsRunnable S t ∷ from_count test shared S t base n gpa
+run_checks test shared S t base n gpa =
+    Live S t ∷ IsRunnable S t ∷ Count n ∷ Aligned base ∷ Aligned gpa ∷ Inside S base n ∷ AllAre test S base n ∷ mapping_checks shared S t gpa n
 
 -- ---- what they tell
 

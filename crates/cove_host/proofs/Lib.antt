@@ -25,7 +25,6 @@ mod RaisedCounts
 mod ReadyWords
 mod Reclaiming
 mod RegionProofs
-mod RunChecks
 mod ServedCalls
 mod SharedPages
 mod TableProofs

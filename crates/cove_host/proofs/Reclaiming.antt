@@ -8,7 +8,7 @@ use Rattle.cove_base.specs.Stores.{AllAllowed, stored}
 use Rattle.cove_base.specs.declared.calls.HostCall.TheVariants.{Reclaim}
 use Rattle.cove_base.specs.declared.statuses.Status.TheVariants.{Success}
 use Rattle.cove_host.proofs.AcceptedCalls.{accepts}
-use Rattle.cove_host.proofs.CheckedLemmas.{first_passes, none_fails}
+use Rattle.cove_host.proofs.CheckedLemmas.{each_passes, none_fails}
 use Rattle.cove_host.proofs.Creating.{stays_within}
 use Rattle.cove_tvm.specs.Called.{Called, IsReady}
 use Rattle.cove_host.specs.Checked.{all_checked}
@@ -35,13 +35,10 @@ module _ (words : List ℕ) (G : Ground) (hart base n : ℕ) (ready : IsReady wo
   passed : (S : State) → Stands words G S → (base / 4096 + n ≤ G.pages) × (every is_free (base / 4096) n S.pages ≡ true)
   passed S stands =
       let all = told S stands in
-      let one = first_passes (Count n) (Aligned base ∷ Inside S base n ∷ AllFree S base n ∷ []) all.0 (sym all.1) in
-      let two = first_passes (Aligned base) (Inside S base n ∷ AllFree S base n ∷ []) all.0 one.1 in
-      let three = first_passes (Inside S base n) (AllFree S base n ∷ []) all.0 two.1 in
-      let four = first_passes (AllFree S base n) [] all.0 three.1 in
+      let from_inside = (each_passes (reclaim_checks S base n) all.0 (sym all.1)).1.1 in
       let long = stands.words_stand.stands.owners.page_count in (
-        subst (λ pages. base / 4096 + n ≤ pages) long (ltb-false (length S.pages) (base / 4096 + n) three.0),
-        not-false (every is_free (base / 4096) n S.pages) four.0,
+        subst (λ pages. base / 4096 + n ≤ pages) long (ltb-false (length S.pages) (base / 4096 + n) from_inside.0),
+        not-false (every is_free (base / 4096) n S.pages) from_inside.1.0,
       )
 
   inside : base / 4096 + n ≤ G.pages

@@ -11,10 +11,10 @@ use Rattle.cove_base.specs.declared.calls.HostCall.TheVariants.{Region}
 use Rattle.cove_base.specs.declared.limits.TheConstants.{REGION_LIMIT}
 use Rattle.cove_base.specs.declared.statuses.Status.TheVariants.{Success}
 use Rattle.cove_host.proofs.PassedCalls.{AllPass, passed_call}
-use Rattle.cove_host.proofs.CheckedLemmas.{first_passes, passes}
+use Rattle.cove_host.proofs.CheckedLemmas.{each_passes}
 use Rattle.cove_host.proofs.LifeTold.{both_live}
 use Rattle.cove_tvm.specs.Called.{Called}
-use Rattle.cove_host.specs.Checked.{all_checked, checked}
+use Rattle.cove_host.specs.Checked.{all_checked}
 use Rattle.cove_host.specs.MoreRegions.{AddsRegion, HasRegion, has_all_regions, meets_region}
 use Rattle.cove_model.specs.Checks.{IsArea, IsBuilding, Live, NoOverlap, RoomForRegion}
 use Rattle.cove_model.specs.GuestPages.{meets}
@@ -69,40 +69,10 @@ region_added (Err Overlap) first n old new overlap full only regions kinds all r
 region_added (Err NotInside) first n old new overlap full only regions kinds all room = absurd (only refl)
 region_added (Err Full) first n old new overlap full only regions kinds all room = absurd (let many = (full.0 refl).1 in omega arith)
 
--- ---- the checks from each on
-
-abbrev pub from_overlap : State → (t gpa len : ℕ) → List Check
-from_overlap S t gpa len = NoOverlap S t gpa len ∷ RoomForRegion S t ∷ []
-
-abbrev pub from_aligned : State → (t gpa len : ℕ) → List Check
-from_aligned S t gpa len = Aligned gpa ∷ Aligned len ∷ IsArea gpa len ∷ from_overlap S t gpa len
+-- ---- the checks
 
 abbrev pub region_checks : State → (t gpa len : ℕ) → List Check
-region_checks S t gpa len = Live S t ∷ IsBuilding S t ∷ from_aligned S t gpa len
-
-pub one_passes : (S : State) (t gpa len : ℕ) (a : Unit {0}) → Ok a ≡ checked (Live S t)
-    → all_checked (region_checks S t gpa len) ≡ all_checked (IsBuilding S t ∷ from_aligned S t gpa len)
-one_passes S t gpa len a first = passes (Live S t) (IsBuilding S t ∷ from_aligned S t gpa len) (Ok a) a first refl
-
-pub two_pass : (S : State) (t gpa len : ℕ) (a b : Unit {0}) → Ok a ≡ checked (Live S t) → Ok b ≡ checked (IsBuilding S t)
-    → all_checked (region_checks S t gpa len) ≡ all_checked (from_aligned S t gpa len)
-two_pass S t gpa len a b first second = one_passes S t gpa len a first ∙ passes (IsBuilding S t) (from_aligned S t gpa len) (Ok b) b second refl
-
-pub five_pass : (S : State) (t gpa len : ℕ) (a b c d e : Unit {0}) → Ok a ≡ checked (Live S t) → Ok b ≡ checked (IsBuilding S t)
-    → Ok c ≡ checked (Aligned gpa) → Ok d ≡ checked (Aligned len) → Ok e ≡ checked (IsArea gpa len)
-    → all_checked (region_checks S t gpa len) ≡ all_checked (from_overlap S t gpa len)
-five_pass S t gpa len a b c d e first second third fourth fifth =
-    two_pass S t gpa len a b first second
-    ∙ passes (Aligned gpa) (Aligned len ∷ IsArea gpa len ∷ from_overlap S t gpa len) (Ok c) c third refl
-    ∙ passes (Aligned len) (IsArea gpa len ∷ from_overlap S t gpa len) (Ok d) d fourth refl
-    ∙ passes (IsArea gpa len) (from_overlap S t gpa len) (Ok e) e fifth refl
-
-pub six_pass : (S : State) (t gpa len : ℕ) (a b c d e f : Unit {0}) → Ok a ≡ checked (Live S t) → Ok b ≡ checked (IsBuilding S t)
-    → Ok c ≡ checked (Aligned gpa) → Ok d ≡ checked (Aligned len) → Ok e ≡ checked (IsArea gpa len) → Ok f ≡ checked (NoOverlap S t gpa len)
-    → all_checked (region_checks S t gpa len) ≡ all_checked (RoomForRegion S t ∷ [])
-six_pass S t gpa len a b c d e f first second third fourth fifth sixth =
-    five_pass S t gpa len a b c d e first second third fourth fifth
-    ∙ passes (NoOverlap S t gpa len) (RoomForRegion S t ∷ []) (Ok f) f sixth refl
+region_checks S t gpa len = Live S t ∷ IsBuilding S t ∷ Aligned gpa ∷ Aligned len ∷ IsArea gpa len ∷ NoOverlap S t gpa len ∷ RoomForRegion S t ∷ []
 
 -- an address that is aligned
 pub whole : (address : ℕ) → (Aligned address).fails ≡ false → address % 4096 ≡ 0
@@ -127,28 +97,24 @@ record Passed (words : List ℕ) (G : Ground) (S : State) (t gpa len : ℕ) : Ty
 passed : (words : List ℕ) (G : Ground) (S : State) (t gpa len : ℕ) (u : Unit {0}) → Stands words G S → all_checked (region_checks S t gpa len) ≡ Ok u
     → Passed words G S t gpa len
 passed words G S t gpa len u stands e =
-    let one = first_passes (Live S t) (IsBuilding S t ∷ from_aligned S t gpa len) u e in
-    let two = first_passes (IsBuilding S t) (from_aligned S t gpa len) u one.1 in
-    let three = first_passes (Aligned gpa) (Aligned len ∷ IsArea gpa len ∷ from_overlap S t gpa len) u two.1 in
-    let four = first_passes (Aligned len) (IsArea gpa len ∷ from_overlap S t gpa len) u three.1 in
-    let five = first_passes (IsArea gpa len) (from_overlap S t gpa len) u four.1 in
-    let six = first_passes (NoOverlap S t gpa len) (RoomForRegion S t ∷ []) u five.1 in
-    let seven = first_passes (RoomForRegion S t) [] u six.1 in
-    let both = both_live words G S t (live_at G.tvms t) (find_tvm S t) (stands.tvm t) one.0 in
-    let area = area_is gpa len five.0 in
+    let all = each_passes (region_checks S t gpa len) u e in
+    let from_gpa = all.1.1 in
+    let from_area = from_gpa.1.1 in
+    let both = both_live words G S t (live_at G.tvms t) (find_tvm S t) (stands.tvm t) all.0 in
+    let area = area_is gpa len from_area.0 in
     record {
       old = both.0;
       model = both.1;
       live = both.2;
       found = both.3;
-      begins = whole gpa three.0;
-      lasts = whole len four.0;
+      begins = whole gpa from_gpa.0;
+      lasts = whole len from_gpa.1.0;
       some = area.0;
       within = area.1;
-      apart = ap (λ v. list_any (meets (gpa / 4096) (len / 4096)) (unwrap_or v (new_tvm t)).regions) (sym both.3) ∙ six.0;
+      apart = ap (λ v. list_any (meets (gpa / 4096) (len / 4096)) (unwrap_or v (new_tvm t)).regions) (sym both.3) ∙ from_area.1.0;
       room =
           leb-false REGION_LIMIT (length both.1.regions)
-          (ap (λ v. nat_le REGION_LIMIT (length (unwrap_or v (new_tvm t)).regions)) (sym both.3) ∙ seven.0);
+          (ap (λ v. nat_le REGION_LIMIT (length (unwrap_or v (new_tvm t)).regions)) (sym both.3) ∙ from_area.1.1.0);
     }
 
 module _ (words : List ℕ) (G H : Ground) (hart gpa len : ℕ) where

@@ -9,10 +9,10 @@ use Rattle.cove_base.specs.declared.calls.HostCall.TheVariants.{Tables}
 use Rattle.cove_base.specs.declared.numbers.Role.TheVariants.{Table}
 use Rattle.cove_base.specs.declared.statuses.Status.TheVariants.{Success}
 use Rattle.cove_host.proofs.PassedCalls.{AllPass, passed_call}
-use Rattle.cove_host.proofs.CheckedLemmas.{first_passes, passes}
+use Rattle.cove_host.proofs.CheckedLemmas.{each_passes}
 use Rattle.cove_host.proofs.LifeTold.{both_live}
 use Rattle.cove_tvm.specs.Called.{Called, IsReady}
-use Rattle.cove_host.specs.Checked.{all_checked, checked}
+use Rattle.cove_host.specs.Checked.{all_checked}
 use Rattle.cove_model.specs.Checks.{AllFree, Inside, Live}
 use Rattle.cove_model.specs.HostCalls.{rule}
 use Rattle.cove_model.specs.LawfulStores.{AllowsLawful, IsLawful}
@@ -29,28 +29,9 @@ use Rattle.cove_tvm.specs.TvmTables.{live_at}
 use Rattle.cove_tvm.specs.declared.ground.Ground.{Ground}
 use Rattle.cove_tvm.specs.declared.machines.Tvm.{Tvm}
 
--- the checks from each on
-abbrev pub from_inside : State → (base n : ℕ) → List Check
-from_inside S base n = Inside S base n ∷ AllFree S base n ∷ []
-
-abbrev pub from_count : State → (base n : ℕ) → List Check
-from_count S base n = Count n ∷ Aligned base ∷ from_inside S base n
-
+-- the checks of the call
 abbrev pub tables_checks : State → (t base n : ℕ) → List Check
-tables_checks S t base n = Live S t ∷ from_count S base n
-
--- where the first three or four pass, those after them answer
-pub three_pass : (S : State) (t base n : ℕ) (a b c : Unit {0}) → Ok a ≡ checked (Live S t) → Ok b ≡ checked (Count n) → Ok c ≡ checked (Aligned base)
-    → all_checked (tables_checks S t base n) ≡ all_checked (from_inside S base n)
-three_pass S t base n a b c first second third =
-    passes (Live S t) (from_count S base n) (Ok a) a first refl
-    ∙ passes (Count n) (Aligned base ∷ from_inside S base n) (Ok b) b second refl
-    ∙ passes (Aligned base) (from_inside S base n) (Ok c) c third refl
-
-pub four_pass : (S : State) (t base n : ℕ) (a b c d : Unit {0}) → Ok a ≡ checked (Live S t) → Ok b ≡ checked (Count n) → Ok c ≡ checked (Aligned base)
-    → Ok d ≡ checked (Inside S base n) → all_checked (tables_checks S t base n) ≡ all_checked (AllFree S base n ∷ [])
-four_pass S t base n a b c d first second third fourth =
-    three_pass S t base n a b c first second third ∙ passes (Inside S base n) (AllFree S base n ∷ []) (Ok d) d fourth refl
+tables_checks S t base n = Live S t ∷ Count n ∷ Aligned base ∷ Inside S base n ∷ AllFree S base n ∷ []
 
 -- what is known of a call that all checks let pass
 record Passed (words : List ℕ) (G : Ground) (S : State) (t base n : ℕ) : Type 0 where
@@ -64,20 +45,17 @@ record Passed (words : List ℕ) (G : Ground) (S : State) (t base n : ℕ) : Typ
 passed : (words : List ℕ) (G : Ground) (S : State) (t base n : ℕ) (u : Unit {0}) → Stands words G S → all_checked (tables_checks S t base n) ≡ Ok u
     → Passed words G S t base n
 passed words G S t base n u stands e =
-    let one = first_passes (Live S t) (from_count S base n) u e in
-    let two = first_passes (Count n) (Aligned base ∷ from_inside S base n) u one.1 in
-    let three = first_passes (Aligned base) (from_inside S base n) u two.1 in
-    let four = first_passes (Inside S base n) (AllFree S base n ∷ []) u three.1 in
-    let five = first_passes (AllFree S base n) [] u four.1 in
-    let both = both_live words G S t (live_at G.tvms t) (find_tvm S t) (stands.tvm t) one.0 in
+    let all = each_passes (tables_checks S t base n) u e in
+    let from_inside = all.1.1.1 in
+    let both = both_live words G S t (live_at G.tvms t) (find_tvm S t) (stands.tvm t) all.0 in
     let long = stands.words_stand.stands.owners.page_count in
     record {
       old = both.0;
       model = both.1;
       live = both.2;
       found = both.3;
-      inside = subst (λ m. base / 4096 + n ≤ m) long (ltb-false (length S.pages) (base / 4096 + n) four.0);
-      free = not-false (every is_free (base / 4096) n S.pages) five.0;
+      inside = subst (λ m. base / 4096 + n ≤ m) long (ltb-false (length S.pages) (base / 4096 + n) from_inside.0);
+      free = not-false (every is_free (base / 4096) n S.pages) from_inside.1.0;
     }
 
 module _ (words : List ℕ) (G : Ground) (hart base n : ℕ) (ready : IsReady words G) where
