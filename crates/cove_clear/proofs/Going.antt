@@ -1,11 +1,9 @@
 -- The steps by which a TVM that is being destroyed goes.
 use Rattle.std.proofs.Common.{◌≡◌, ◌≢◌, ℕ, ◌+◌, ◌-◌, ◌*◌, ◌/◌, ◌%◌, ◌^◌, ◌<◌, ◌≤◌, ◌∙◌, Bool, true, false, eqb, eq-eqb, List, [], ◌∷◌, ◌++◌, get_or, length, length-append, length-set, set, refl, sym, ap, subst, inl, inr, arith, get_or-set_other, get_or-set_same}
 use Rattle.std.proofs.lemmas.Bool.{cases_eq, ne_eqb}
-use Rattle.cove_base.proofs.StoreLemmas.{stored-append}
 use Rattle.cove_base.proofs.TreeLemmas.{entry-stands, link-slot, middle≢last, named-outside, root≢last, stands-within}
 use Rattle.cove_base.specs.PageWords.{given, host}
 use Rattle.cove_base.specs.Places.{table_word}
-use Rattle.cove_base.specs.Stores.{AllAllowed, Leads, stored}
 use Rattle.cove_base.specs.Tables.{Slot, InRoot, InMiddle, InLast, IsLeaf, IsLink, NoTable, ATable, IsLinkSlot, IsSlot, Names, ByBlocked, ByPresent, StandsAt, entry_at, leaf_at, next_table}
 use Rattle.cove_base.specs.declared.limits.TheConstants.{PAGE_LIMIT}
 use Rattle.cove_base.specs.declared.numbers.Role.{Role}
@@ -18,17 +16,10 @@ use Rattle.cove_model.proofs.OwnedStores.{stands_in}
 use Rattle.cove_model.proofs.SlotStores.{below_named}
 use Rattle.cove_model.specs.LawfulStores.{IsLawful, IsTableOf}
 use Rattle.cove_model.specs.TableLaw.{is_shared_leaf, shared_leaves, shared_once}
-use Rattle.cove_stage2.proofs.LawfulLemmas.{allowed-append}
+use Rattle.cove_stage2.proofs.LawfulLemmas.{leads_on}
 use Rattle.cove_stage2.proofs.SharedWords.{is_shared, not_shared, once_is}
 
 -- ---- one step after another
-
-pub leads_on : (allows : List ℕ → ℕ → ℕ → Type 0) (old mid new : List ℕ) → Leads allows old mid → Leads allows mid new → Leads allows old new
-leads_on allows old mid new first second = (
-  first.0 ++ second.0,
-  allowed-append allows old first.0 second.0 first.1 (subst (λ ws. AllAllowed allows ws second.0) first.2 second.1),
-  second.2 ∙ ap (λ ws. stored ws second.0) first.2 ∙ sym (stored-append old first.0 second.0),
-)
 
 clears_role : (pages : ℕ) (old new : List ℕ) (t p : ℕ) (role : Role) → Clears pages old new t → p < pages → get_or new p 0 ≡ given t role → get_or old p 0 ≡ given t role
 clears_role pages old new t p role clears on is = elim (clears.page p on) [

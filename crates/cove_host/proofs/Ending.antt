@@ -7,7 +7,7 @@ use Rattle.cove_base.specs.Places.{count_word, epoch_word, table_word, tvm_word}
 use Rattle.cove_base.specs.Stores.{AllAllowed, stored}
 use Rattle.cove_base.specs.declared.calls.HostCall.TheVariants.{Destroy}
 use Rattle.cove_base.specs.declared.statuses.Status.TheVariants.{Success}
-use Rattle.cove_clear.proofs.Going.{leads_on}
+use Rattle.cove_stage2.proofs.LawfulLemmas.{leads_on}
 use Rattle.cove_clear.specs.Leaving.{Goes, IsLeaving, MayLeave, Proceeds}
 use Rattle.cove_host.proofs.Beginning.{begins_leaving}
 use Rattle.cove_host.proofs.CheckedLemmas.{first_passes, none_fails}

@@ -15,14 +15,14 @@ use Rattle.cove_host.specs.Mapped.{MapsRun, MayMapBy}
 use Rattle.cove_model.specs.Checks.{EnoughTables, Inside, IsRunnable, Live, Unmapped}
 use Rattle.cove_model.specs.GuestPages.{guests, missing_tables}
 use Rattle.cove_model.specs.HostCalls.{rule}
-use Rattle.cove_model.specs.LawfulStores.{AllowsLawful, MakesLawful}
+use Rattle.cove_model.specs.LawfulStores.{AllowsLawful, IsLawful, MakesLawful}
 use Rattle.cove_model.specs.Mappings.{mapping_of}
 use Rattle.cove_model.specs.Owners.{Owner, every}
 use Rattle.cove_model.specs.Refusals.{Aligned, Check, Count, plain}
 use Rattle.cove_model.specs.States.{State, find_tvm}
 use Rattle.cove_model.specs.Tvms.{Tvm as ModelTvm, new_tvm}
+use Rattle.cove_stage2.proofs.LawfulLemmas.{leads_on}
 use Rattle.cove_stage2.specs.MapStores.{Pages}
-use Rattle.cove_tvm.proofs.GivesLawful.{lawful_twice}
 use Rattle.cove_tvm.proofs.MappedRuns.{behind_elsewhere}
 use Rattle.cove_tvm.proofs.RunsStand.{Prepares, run_may, was}
 use Rattle.cove_tvm.specs.Called.{Called, IsMet, IsReady}
@@ -127,7 +127,7 @@ module _ {test : Owner → Bool} {shared : Bool} {words mid : List ℕ} {G : Gro
   run_called hart call new H left told mapped lawful after none =
       let run = run_mapped new left mapped in
       let inside = may.inside in
-      lawful_call hart call words new G H told after none (lawful_twice G.pages G.harts hart words words mid new lawful (run.lawful hart words))
+      lawful_call hart call words new G H told after none (leads_on (IsLawful G.pages G.harts hart words) words mid new lawful (run.lawful hart words))
       (λ at past. run.elsewhere at (behind_elsewhere G.pages mid (suc k) at (omega arith)) ∙ prepared.others at (inr (omega arith)))
 
 -- the ground with frames that were filled and a TVM that was written anew

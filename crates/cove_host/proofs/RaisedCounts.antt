@@ -4,7 +4,7 @@ use Rattle.std.proofs.lemmas.Bool.{cases_eq}
 use Rattle.cove_base.specs.PageWords.{host}
 use Rattle.cove_host.specs.Raised.{AreHosts, RaisesBy}
 use Rattle.cove_model.specs.LawfulStores.{Counts, IsLawful}
-use Rattle.cove_tvm.proofs.GivesLawful.{lawful_twice}
+use Rattle.cove_stage2.proofs.LawfulLemmas.{leads_on}
 
 raise_lawful : (pages harts hart : ℕ) (start now : List ℕ) (place maps : ℕ) → place < pages → get_or now place 0 ≡ host maps
     → IsLawful pages harts hart start now place (get_or now place 0 + 8)
@@ -46,6 +46,6 @@ module _ (first i : ℕ) (old now : List ℕ) (done : RaisesBy first i old now) 
     lawful = λ pages harts hart start fits hosts.
         let before = done.lawful pages harts hart start (omega (arith, fits)) (λ p low high. hosts p low (omega (arith, high))) in
         let one = next_raise pages harts hart (i + 1) start (omega arith) fits hosts in
-        lawful_twice pages harts hart start old now (set now (first + i) (get_or now (first + i) 0 + 8)) before
+        leads_on (IsLawful pages harts hart start) old now (set now (first + i) (get_or now (first + i) 0 + 8)) before
         ((first + i, get_or now (first + i) 0 + 8) ∷ [], (one, tt), refl);
   })

@@ -5,7 +5,7 @@ use Rattle.cove_base.proofs.StoreLemmas.{stored-append}
 use Rattle.cove_base.proofs.TreeLemmas.{entry-stands, link-slot, named-outside, root≢last, root≢middle, middle≢last, slot-cases}
 use Rattle.cove_base.specs.PageWords.{given}
 use Rattle.cove_base.specs.Places.{hart_word, table_word}
-use Rattle.cove_base.specs.Stores.{AllAllowed, fills, stored}
+use Rattle.cove_base.specs.Stores.{AllAllowed, Leads, fills, stored}
 use Rattle.cove_base.specs.TableWords.{blocked}
 use Rattle.cove_base.specs.Tables.{Slot, InRoot, InMiddle, InLast, IsLeaf, IsPresent, IsLinkSlot, IsPool, IsSlot, IsTree, StandsAt, entry_at, leaf_at, next_table, present}
 use Rattle.cove_base.specs.declared.numbers.Role.TheVariants.{Table}
@@ -19,9 +19,20 @@ use Rattle.cove_stage2.specs.Lacked.{tables_lacked}
 use Rattle.cove_stage2.specs.LawfulTables.{AreGiven, BlockIsLawful, ClearIsLawful, LeafKeepsGiven, MapIsLawful, MapKeepsGiven, UnblockIsLawful, UnmapIsLawful}
 use Rattle.cove_stage2.specs.MapStores.{link_stores, map_stores, next_page, pool_after, pool_left, slot_stores, way_stores}
 
+-- ---- one store after another
+
+-- stores that are allowed, and then more that are allowed where they leave the words
 pub allowed-append : (allows : List ℕ → ℕ → ℕ → Type 0) (words : List ℕ) (ss ts : List (ℕ × ℕ)) → AllAllowed allows words ss → AllAllowed allows (stored words ss) ts → AllAllowed allows words (ss ++ ts)
 allowed-append allows words [] ts first second = second
 allowed-append allows words (s ∷ ss) ts first second = (first.0, allowed-append allows (set words s.0 s.1) ss ts first.1 second)
+
+-- words that allowed stores lead to, and then more
+pub leads_on : (allows : List ℕ → ℕ → ℕ → Type 0) (old mid new : List ℕ) → Leads allows old mid → Leads allows mid new → Leads allows old new
+leads_on allows old mid new first second = (
+  first.0 ++ second.0,
+  allowed-append allows old first.0 second.0 first.1 (subst (λ ws. AllAllowed allows ws second.0) first.2 second.1),
+  second.2 ∙ ap (λ ws. stored ws second.0) first.2 ∙ sym (stored-append old first.0 second.0),
+)
 
 -- ---- where slots stand
 

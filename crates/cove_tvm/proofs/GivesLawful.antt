@@ -1,7 +1,7 @@
 -- The stores that give free pages to a TVM are lawful, and so are those of a creation.
-use Rattle.std.proofs.Common.{◌≡◌, ℕ, zero, suc, ◌+◌, ◌/◌, ◌<◌, ◌≤◌, ◌∙◌, ◌⊎◌, ◌++◌, List, [], ◌∷◌, true, get_or, set, refl, sym, ap, subst, inl, inr, arith, get_or-set_other}
+use Rattle.std.proofs.Common.{◌≡◌, ℕ, zero, suc, ◌+◌, ◌/◌, ◌<◌, ◌≤◌, ◌∙◌, ◌⊎◌, List, true, get_or, set, refl, sym, subst, inl, inr, arith, get_or-set_other}
 use Rattle.std.proofs.Math.Path.{fun_ext}
-use Rattle.cove_base.proofs.StoreLemmas.{get_or-fills_other, stored-append}
+use Rattle.cove_base.proofs.StoreLemmas.{get_or-fills_other}
 use Rattle.cove_base.specs.PageWords.{given}
 use Rattle.cove_base.specs.Places.{answered_word, hart_word}
 use Rattle.cove_base.specs.Stores.{AllAllowed, fills, stored}
@@ -10,29 +10,16 @@ use Rattle.cove_base.specs.declared.numbers.Role.{Role}
 use Rattle.cove_base.specs.declared.numbers.Role.TheVariants.{Root, State}
 use Rattle.cove_model.proofs.Runs.{every_at}
 use Rattle.cove_model.proofs.StandLemmas.{free_page}
-use Rattle.cove_model.specs.LawfulStores.{Gives, IsFreeIn, IsLawful, IsLeft, MakesLawful}
+use Rattle.cove_model.specs.LawfulStores.{Gives, IsFreeIn, IsLawful, IsLeft}
 use Rattle.cove_model.specs.Owners.{every, is_free, page_at}
 use Rattle.cove_model.specs.Seated.{IsSeated}
 use Rattle.cove_model.specs.States.{State as MonitorState}
 use Rattle.cove_model.specs.WordsStand.{FencesWithin, FreeStands, PageStands, answered_in, epoch_in, maps_of}
+use Rattle.cove_stage2.proofs.LawfulLemmas.{allowed-append}
 use Rattle.cove_tvm.proofs.GivenPages.{not_entered}
 use Rattle.cove_tvm.specs.NewTvms.{CreateIsLawful, MayCreate, create_stores}
 use Rattle.cove_tvm.specs.Stands.{Stands}
 use Rattle.cove_tvm.specs.declared.ground.Ground.{Ground}
-
--- stores that are allowed, and then more that are allowed where they leave the words
-pub allowed_append : (allows : List ℕ → ℕ → ℕ → Type 0) (words : List ℕ) (ss ts : List (ℕ × ℕ)) → AllAllowed allows words ss → AllAllowed allows (stored words ss) ts → AllAllowed allows words (ss ++ ts)
-allowed_append allows words [] ts one two = two
-allowed_append allows words (s ∷ ss) ts one two = (one.0, allowed_append allows (set words s.0 s.1) ss ts one.1 two)
-
--- lawful stores, and then more
-pub lawful_twice : (pages harts hart : ℕ) (start old mid new : List ℕ) → MakesLawful pages harts hart start old mid → MakesLawful pages harts hart start mid new
-    → MakesLawful pages harts hart start old new
-lawful_twice pages harts hart start old mid new one two = (
-  one.0 ++ two.0,
-  allowed_append (IsLawful pages harts hart start) old one.0 two.0 one.1 (subst (λ ws. AllAllowed (IsLawful pages harts hart start) ws two.0) one.2 two.1),
-  two.2 ∙ ap (λ ws. stored ws two.0) one.2 ∙ sym (stored-append old one.0 two.0),
-)
 
 -- words of which those past the page words, and some page words, are the same
 pub free_still : (pages harts : ℕ) (words new : List ℕ) (p : ℕ) → ((place : ℕ) → pages ≤ place → get_or new place 0 ≡ get_or words place 0)
@@ -97,7 +84,7 @@ module _ (words : List ℕ) (ground : Ground) (S : MonitorState) (root state : �
 
   created_lawful : (hart : ℕ) → AllAllowed (IsLawful ground.pages ground.harts hart words) words (create_stores (S.made + 1) root state)
   created_lawful hart =
-      allowed_append (IsLawful ground.pages ground.harts hart words) words (fills (root / 4096) 4 (given (S.made + 1) Root)) (fills (state / 4096) 1 (given (S.made + 1) State))
+      allowed-append (IsLawful ground.pages ground.harts hart words) words (fills (root / 4096) 4 (given (S.made + 1) Root)) (fills (state / 4096) 1 (given (S.made + 1) State))
       (gives ground.pages ground.harts hart (S.made + 1) words Root (root / 4096) 4 words may.root_inside (omega arith) small left
       (free_at (root / 4096) 4 may.root_inside may.root_free))
       (gives ground.pages ground.harts hart (S.made + 1) words State (state / 4096) 1 rooted may.state_inside (omega arith) small

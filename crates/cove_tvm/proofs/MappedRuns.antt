@@ -10,9 +10,9 @@ use Rattle.cove_stage2.proofs.LawfulLemmas.{map_is_lawful, map_keeps_given}
 use Rattle.cove_stage2.proofs.MapPlaces.{MapLeaves, map_leaves}
 use Rattle.cove_stage2.proofs.RestLemmas.{next-some}
 use Rattle.cove_stage2.specs.Lacked.{tables_lacked}
+use Rattle.cove_stage2.proofs.LawfulLemmas.{leads_on}
 use Rattle.cove_stage2.specs.LawfulTables.{AreGiven}
 use Rattle.cove_stage2.specs.MapStores.{map_stores, pool_left}
-use Rattle.cove_tvm.proofs.GivesLawful.{lawful_twice}
 use Rattle.cove_tvm.specs.MappedRuns.{AreMapped, MapsNext, MayMap, RunBegins, RunGoesOn}
 
 pub run_begins : RunBegins
@@ -118,7 +118,7 @@ module _ (pages harts t root g p n i : ℕ) (shared : Bool) (old pool words left
 
     lawful_on : (hart : ℕ) (start : List ℕ) → MakesLawful pages harts hart start old new
     lawful_on hart start =
-        lawful_twice pages harts hart start old words new (done.lawful hart start)
+        leads_on (IsLawful pages harts hart start) old words new (done.lawful hart start)
         (map_stores pages root words left (g + i) (present (p + i) shared), next_allowed hart start, next.stores)
 
     pub one_more : AreMapped pages harts t root g p n (suc i) shared old pool new rest
