@@ -1,7 +1,6 @@
 -- What is left after the pages of a TVM were taken back.
 use Rattle.std.proofs.Common.{◌≡◌, ◌≢◌, ℕ, zero, suc, ◌+◌, ◌-◌, ◌*◌, ◌/◌, ◌%◌, ◌^◌, ◌<◌, ◌≤◌, ◌⊎◌, ◌∙◌, true, false, true≢false, eqb, eqb-true, eq-eqb, List, [], ◌∷◌, ◌++◌, get_or, length, length-set, set, Option, Some, None, refl, sym, ap, subst, inl, inr, arith, get_or-set_other, get_or-set_same}
 use Rattle.std.proofs.lemmas.Bool.{cases_Bool, cases_eq, or_cases, or_left, or_right}
-use Rattle.std.proofs.lemmas.Bool.Decides.{nat_tests}
 use Rattle.std.proofs.lemmas.List.{map-append}
 use Rattle.std.proofs.lemmas.List.Folds.{list_any_at}
 use Rattle.std.proofs.lemmas.Option.{none-some, same_Some}
@@ -18,7 +17,7 @@ use Rattle.cove_clear.specs.Leaving.{Clears, IsLeaving}
 use Rattle.cove_host.specs.Released.{all_cpu_pages, cpu_pages, release_stores}
 use Rattle.cove_model.proofs.Distinct.{has_left, has_right}
 use Rattle.cove_model.proofs.LeafWords.{given_host, none_named}
-use Rattle.cove_model.proofs.Members.{has_append}
+use Rattle.cove_model.proofs.Members.{has_append, has_range, range_has}
 use Rattle.cove_model.specs.LawfulStores.{Frees, IsLawful, IsLeft, IsTableOf, TakesBack}
 use Rattle.cove_model.specs.Owners.{has}
 use Rattle.cove_model.specs.States.{Seat, find_cpu}
@@ -32,16 +31,6 @@ use Rattle.cove_tvm.specs.TvmStands.{LiveStands}
 use Rattle.cove_tvm.specs.VcpuStands.{SlotStands}
 use Rattle.cove_tvm.specs.declared.machines.Tvm.{Tvm}
 use Rattle.cove_tvm.specs.declared.vcpus.VcpuSlot.{VcpuSlot}
-
--- ---- the pages of a run
-
-has_range : (a n p : ℕ) → a ≤ p → p < a + n → has p (range_with_len a n) ≡ true
-has_range a zero p low high = absurd (omega arith)
-has_range a (suc n) p low high = grind (arith, nat_tests, has_range (a + 1) n p)
-
-range_has : (a n p : ℕ) → has p (range_with_len a n) ≡ true → (a ≤ p) × (p < a + n)
-range_has a zero p there = absurd (true≢false (sym there))
-range_has a (suc n) p there = grind (arith, nat_tests, range_has (a + 1) n p)
 
 -- ---- lists of stores
 

@@ -24,11 +24,12 @@ pub has_not : (k : ℕ) (ns : List ℕ) → has k (without k ns) ≡ false
 has_not k [] = refl
 has_not k (x ∷ xs) = grind (arith, nat_tests, has_not k xs)
 
-has_range : (a n h : ℕ) → a ≤ h → h < a + n → has h (range_with_len a n) ≡ true
+-- the numbers of a run are these
+pub has_range : (a n h : ℕ) → a ≤ h → h < a + n → has h (range_with_len a n) ≡ true
 has_range a zero h low high = absurd (omega arith)
 has_range a (suc n) h low high = grind (arith, nat_tests, has_range (a + 1) n h)
 
-range_has : (a n h : ℕ) → has h (range_with_len a n) ≡ true → (a ≤ h) × (h < a + n)
+pub range_has : (a n h : ℕ) → has h (range_with_len a n) ≡ true → (a ≤ h) × (h < a + n)
 range_has a zero h e = false-true e
 range_has a (suc n) h e = grind (arith, nat_tests, range_has (a + 1) n h)
 

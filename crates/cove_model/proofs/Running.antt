@@ -1,5 +1,5 @@
 -- Along legal histories: harts sit on vCPUs that run, and entries of other harts leave a running vCPU as it is.
-use Rattle.std.proofs.Common.{◌≡◌, ℕ, ◌<◌, List, [], ◌∷◌, ◌++◌, Option, Some, unwrap_or, sym, ap, subst, ◌∙◌, append-nil, append_assoc}
+use Rattle.std.proofs.Common.{◌≡◌, ℕ, ◌<◌, List, [], ◌∷◌, ◌++◌, Option, None, Some, unwrap_or, refl, sym, ap, subst, ◌∙◌, append-nil, append_assoc}
 use Rattle.std.proofs.lemmas.Option.{none-some}
 use Rattle.cove_base.proofs.ScriptLimits.{Limits}
 use Rattle.cove_base.specs.Scripts.{ScriptValue}
@@ -13,9 +13,16 @@ use Rattle.cove_model.proofs.Seating.{seated_event, still_done}
 use Rattle.cove_model.specs.Histories.{Legal, after, own}
 use Rattle.cove_model.specs.Offers.{cpu_of}
 use Rattle.cove_model.specs.Seated.{IsOn, IsSeated, IsStill}
-use Rattle.cove_model.specs.States.{Seat, State, cpu_at, ended_by, new_cpu}
+use Rattle.cove_model.specs.States.{Seat, State, cpu_at, ended_by, new_cpu, opening}
 use Rattle.cove_model.specs.Steps.{after_event, done}
 use Rattle.cove_model.specs.Tvms.{Cpu, Tvm, new_tvm}
+
+-- a board of which no hart is inside is seated
+pub none_seated : (S : State) → ((h : ℕ) → S.seats h ≡ None) → IsSeated S
+none_seated S none = record {
+  on = λ h seat on sits. absurd (none-some seat (sym (none h) ∙ sits));
+  alone = λ h k seat other on within sits there same cpu. absurd (none-some seat (sym (none h) ∙ sits));
+}
 
 -- the vCPU that a seat is on
 cpu_there : (S : State) (seat : Seat) (on : IsOn S seat) → cpu_of S seat ≡ on.cpu
@@ -34,10 +41,7 @@ module _ (script : ScriptValue) (limits : Limits script) where
       subst IsSeated (sym (after_push script H e))
       (seated_event (after script H) (more (legal_front script H e legal)) e.hart.0 e.event
       (subst (λ n. e.hart.0 < n) (sym (after_harts script H)) (entry_on_board script limits H e (legal_front script H e legal) (legal_last script H e legal)))))
-      (λ legal. record {
-        on = λ h seat lt e. absurd (none-some seat e);
-        alone = λ h k seat other lh lk e f. absurd (none-some seat e);
-      })
+      (λ legal. none_seated (opening script) (λ h. refl))
 
   keeps_since : (H : List Entry) (h : ℕ) (seat : Seat) → h < script.harts → (after script H).seats h ≡ Some seat
       → (since : List Entry) → Legal script (H ++ since) → own since h ≡ [] → Keeps (after script H) (after script (H ++ since)) h seat

@@ -1,5 +1,4 @@
 use Rattle.std.proofs.Common.{◌≡◌, ℕ, ◌+◌, ◌-◌, ◌<◌, ◌≤◌, List, [], ◌∷◌, ◌++◌, refl, sym, subst, ◌∙◌, arith}
-use Rattle.std.proofs.lemmas.Option.{none-some}
 use Rattle.cove_base.specs.Scripts.{ScriptValue}
 use Rattle.cove_base.specs.declared.events.Entry.{Entry}
 use Rattle.cove_base.specs.declared.events.Event.{Event}
@@ -9,6 +8,7 @@ use Rattle.cove_tvm.specs.Called.{IsMet}
 use Rattle.cove_model.proofs.Boards.{board_of}
 use Rattle.cove_model.proofs.Histories.{sound}
 use Rattle.cove_model.proofs.Ordering.{orderly}
+use Rattle.cove_model.proofs.Running.{none_seated}
 use Rattle.cove_model.proofs.Unbuilt.{outside_after}
 use Rattle.cove_model.specs.Histories.{after}
 use Rattle.cove_model.specs.Played.{entry_by}
@@ -32,10 +32,7 @@ met : (script : ScriptValue) (H : List Entry) → IsMet (after script H)
 met script H = record {
   sound = sound script H;
   orderly = orderly script H;
-  seated = record {
-    on = λ h seat on sits. absurd (none-some seat (sym (outside_after script H h) ∙ sits));
-    alone = λ h k seat other on within sits there same cpu. absurd (none-some seat (sym (outside_after script H h) ∙ sits));
-  };
+  seated = none_seated (after script H) (outside_after script H);
 }
 
 pub call-requires-clause-can : goal.call-requires-clause-can
