@@ -13,6 +13,7 @@ use Rattle.cove_base.specs.declared.statuses.Status.TheVariants.{Denied, Invalid
 use Rattle.cove_model.proofs.Histories.{sound}
 use Rattle.cove_model.proofs.Lists.{replicate_zero}
 use Rattle.cove_model.proofs.Ordering.{orderly}
+use Rattle.cove_model.proofs.Running.{none_seated}
 use Rattle.cove_model.proofs.StoreLawProofs.{answers_apart}
 use Rattle.cove_model.specs.LawfulStores.{IsLawful, MakesLawful}
 use Rattle.cove_model.specs.Answers.{is_built, refusal, refusal_by, reply_to, state_by}
@@ -21,7 +22,7 @@ use Rattle.cove_model.specs.Owners.{AsState, Given, Host, page_at}
 use Rattle.cove_model.specs.Refusals.{first_failing, plain}
 use Rattle.cove_model.specs.States.{State, opening, opening_words}
 use Rattle.cove_model.specs.WordsStand.{FencesWithin, FrameStands, FramesStand, epoch_in}
-use Rattle.cove_tvm.proofs.NewGround.{ground_opens}
+use Rattle.cove_tvm.proofs.NewGround.{board_is_new, ground_opens}
 use Rattle.cove_tvm.specs.CallExamples.{only, small_ground, small_script, small_words}
 use Rattle.cove_tvm.specs.Called.{Called, IsMet, IsReady}
 use Rattle.cove_tvm.specs.Examples.{nine_free}
@@ -36,10 +37,7 @@ pub met : IsMet (opening small_script)
 met = record {
   sound = sound small_script [];
   orderly = orderly small_script [];
-  seated = record {
-    on = λ h seat on sits. absurd (none-some seat sits);
-    alone = λ h k seat other on within sits there same cpu. absurd (none-some seat sits);
-  };
+  seated = none_seated (opening small_script) (λ h. refl);
 }
 
 pub page_of_none : IsMet (record nine_free { pages = Given 1 AsState ∷ [] }) → ⊥
@@ -63,17 +61,7 @@ frames = record { count = refl; frame = frame }
     frame (suc p) low = absurd (omega arith)
 
 pub new_ground : IsNewGround small_script small_ground
-new_ground = record {
-  pages = refl;
-  harts = refl;
-  filecount = refl;
-  key = refl;
-  no_tvm = refl;
-  no_kick = refl;
-  file_harts = refl;
-  file_count = refl;
-  frames = frames;
-}
+new_ground = board_is_new small_script small_ground.memory frames
 
 pub kicked : IsNewGround small_script (record small_ground { kicked = 1 }) → ⊥
 kicked new = let is : ◌≡◌ {A = ℕ} 1 0 = new.no_kick in omega arith

@@ -7,6 +7,7 @@ use Rattle.cove_base.specs.Places.{all_words, tvm_word}
 use Rattle.cove_base.specs.declared.limits.TheConstants.{ENTRY_LIMIT}
 use Rattle.cove_base.specs.declared.numbers.Role.TheVariants.{State as StateRole, Table}
 use Rattle.cove_model.proofs.Lists.{replicate_zero}
+use Rattle.cove_model.proofs.Running.{none_seated}
 use Rattle.cove_model.specs.Answers.{effect}
 use Rattle.cove_model.specs.Orderly.{IsOrderly}
 use Rattle.cove_model.specs.Owners.{Owner, Purpose, Given, is_free, is_host, page_at}
@@ -18,8 +19,9 @@ use Rattle.cove_model.specs.WordsStand.{FencesWithin, FrameStands, FramesStand}
 use Rattle.cove_stage2.specs.declared.tables.Tables.{Tables}
 use Rattle.cove_tvm.proofs.CreatedTvm.{create_stands}
 use Rattle.cove_tvm.proofs.GivenTables.{tables_stand}
-use Rattle.cove_tvm.proofs.NewGround.{ground_opens}
+use Rattle.cove_tvm.proofs.NewGround.{board_is_new, ground_opens}
 use Rattle.cove_tvm.proofs.OwnerCalls.{ground_converts, ground_fences}
+use Rattle.cove_tvm.proofs.StateExampleProofs.{begun_is_new}
 use Rattle.cove_tvm.specs.Examples.{begun}
 use Rattle.cove_tvm.specs.GivenRuns.{MayGive}
 use Rattle.cove_tvm.specs.GroundLaws.{IsNewGround}
@@ -28,7 +30,6 @@ use Rattle.cove_tvm.specs.NewTvms.{MayCreate}
 use Rattle.cove_tvm.specs.PrivateRuns.{MayGrow}
 use Rattle.cove_tvm.specs.SharedRuns.{MayShare}
 use Rattle.cove_tvm.specs.Stands.{Stands}
-use Rattle.cove_tvm.specs.TvmTables.{IsNewTvm}
 use Rattle.cove_base.specs.declared.calls.HostCall.TheVariants.{Convert}
 
 -- ---- the board
@@ -49,17 +50,7 @@ frames = record { count = refl; frame = frame }
     frame (suc (suc (suc (suc (suc (suc (suc (suc (suc p))))))))) low = absurd (omega arith)
 
 new_ground : IsNewGround nine_pages nine_ground
-new_ground = record {
-  pages = refl;
-  harts = refl;
-  filecount = refl;
-  key = refl;
-  no_tvm = refl;
-  no_kick = refl;
-  file_harts = refl;
-  file_count = refl;
-  frames = frames;
-}
+new_ground = board_is_new nine_pages nine_ground.memory frames
 
 after_low : Stands low_converted nine_ground (effect (opening nine_pages) 0 (Convert 0 3))
 after_low = ground_converts (replicate (all_words 9 1) 0) nine_ground (opening nine_pages) 0 0 3 (omega arith) (omega arith) refl (ground_opens nine_pages nine_ground new_ground)
@@ -96,10 +87,7 @@ orderly = record {
 }
 
 seated : IsSeated freed
-seated = record {
-  on = λ h seat on sits. absurd (none-some seat sits);
-  alone = λ h k seat other on within sits there same cpu. absurd (none-some seat sits);
-}
+seated = none_seated freed (λ h. refl)
 
 -- no call so far stored a number of a TVM
 no_number : (place : ℕ) → 4619 ≤ place → get_or freed_words place 0 ≡ 0
@@ -126,25 +114,8 @@ may_create = record {
 }
 
 module _ (tables : Tables) (root : tables.root.0 ≡ 4) (pages : tables.pages ≡ 9) where
-  fresh : IsNewTvm 9 4 8 (begun tables)
-  fresh = record {
-    life = refl;
-    regions = refl;
-    registers = refl;
-    allowed = refl;
-    board = pages;
-    root_is = root;
-    pool = refl;
-    room = refl;
-    state_is = refl;
-    no_v0 = refl;
-    no_v1 = refl;
-    no_v2 = refl;
-    no_v3 = refl;
-  }
-
   pub creation : Stands created_words (created_ground tables) created
-  creation = create_stands freed_words nine_ground freed 0 0x4000 0x8000 (begun tables) board orderly seated fences may_create fresh
+  creation = create_stands freed_words nine_ground freed 0 0x4000 0x8000 (begun tables) board orderly seated fences may_create (begun_is_new tables root pages)
 
   pub free : MayGive created_words (created_ground tables) created 0 0 2 (begun tables) (new_tvm 1)
   free = record { stands = creation; live = refl; found = refl; inside = omega arith; free = refl }

@@ -4,13 +4,16 @@ use Rattle.std.proofs.lemmas.List.Sums.{sum_by-cons}
 use Rattle.std.proofs.lemmas.Nat.Bits.{bit_at-zero}
 use Rattle.std.specs.Int.{bit_at}
 use Rattle.cove_base.specs.Places.{all_words}
+use Rattle.cove_base.specs.Scripts.{ScriptValue}
 use Rattle.cove_model.proofs.OpeningStandsProofs.{opening_stands}
 use Rattle.cove_model.specs.States.{opening}
 use Rattle.cove_model.specs.TableLaw.{is_shared_leaf}
 use Rattle.cove_model.specs.WordLaws.{Stand}
-use Rattle.cove_tvm.specs.GroundLaws.{OpeningStands}
+use Rattle.cove_model.specs.WordsStand.{FramesStand}
+use Rattle.cove_tvm.specs.GroundLaws.{IsNewGround, OpeningStands}
 use Rattle.cove_tvm.specs.TvmStands.{TvmStands}
 use Rattle.cove_tvm.specs.TvmTables.{live_at}
+use Rattle.cove_tvm.specs.declared.ground.Ground.{Ground}
 
 -- none of some zeros passes a test that 0 doesn't
 count_first : (test : ℕ → Bool) → test 0 ≡ false → (n k : ℕ) → ◌≡◌ {A = ℕ} (count_by test (take k (replicate n 0))) 0
@@ -33,6 +36,33 @@ count_zeros test off (suc n) (suc d) k = count_zeros test off n d k
 pub none_live : (pages t : ℕ) → live_at (record { pages = pages; tvms = [] }) t ≡ None
 none_live pages zero = refl
 none_live pages (suc k) = refl
+
+-- the ground of a script's board with no TVM, no kick and these frames
+abbrev pub board_with : ScriptValue → List (List ℕ) → Ground
+board_with script frames = record {
+  memory = frames;
+  tvms = record { pages = script.pages; tvms = [] };
+  files = record { harts = script.harts; files = script.files; states = [] };
+  kicked = 0;
+  key = script.key;
+  pages = script.pages;
+  harts = script.harts;
+  filecount = script.files;
+}
+
+-- it is new where they are those of the opening memory
+pub board_is_new : (script : ScriptValue) (frames : List (List ℕ)) → FramesStand frames (opening script) → IsNewGround script (board_with script frames)
+board_is_new script frames stand = record {
+  pages = refl;
+  harts = refl;
+  filecount = refl;
+  key = refl;
+  no_tvm = refl;
+  no_kick = refl;
+  file_harts = refl;
+  file_count = refl;
+  frames = stand;
+}
 
 pub ground_opens : OpeningStands
 ground_opens script ground new =

@@ -89,26 +89,26 @@ has_begun = record {
   nobody = outside;
 }
 
+pub begun_is_new : (tables : Tables) → tables.root.0 ≡ 4 → tables.pages ≡ 9 → IsNewTvm 9 4 8 (begun tables)
+begun_is_new tables root pages = record {
+  life = refl;
+  regions = refl;
+  registers = refl;
+  allowed = refl;
+  board = pages;
+  root_is = root;
+  pool = refl;
+  room = refl;
+  state_is = refl;
+  no_v0 = refl;
+  no_v1 = refl;
+  no_v2 = refl;
+  no_v3 = refl;
+}
+
 pub new : (seats : ℕ → Option Seat) (files : FileTable) (tables : Tables) → tables.root.0 ≡ 4 → tables.pages ≡ 9
     → LiveStands 9 1 begun_words 1 seats files (begun tables) (new_tvm 1)
-new seats files tables root pages = begun_lives 9 1 begun_words 1 4 8 has_begun seats files (begun tables) fresh
-  where
-    fresh : IsNewTvm 9 4 8 (begun tables)
-    fresh = record {
-      life = refl;
-      regions = refl;
-      registers = refl;
-      allowed = refl;
-      board = pages;
-      root_is = root;
-      pool = refl;
-      room = refl;
-      state_is = refl;
-      no_v0 = refl;
-      no_v1 = refl;
-      no_v2 = refl;
-      no_v3 = refl;
-    }
+new seats files tables root pages = begun_lives 9 1 begun_words 1 4 8 has_begun seats files (begun tables) (begun_is_new tables root pages)
 
 pub finalized : (files : FileTable) (tables : Tables)
     → LiveStands 9 1 begun_words 1 nowhere files (begun tables) (record (new_tvm 1) { runnable = true }) → ⊥

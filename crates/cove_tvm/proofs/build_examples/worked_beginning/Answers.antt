@@ -1,25 +1,12 @@
-use Rattle.std.proofs.Common.{◌≡◌, ℕ, refl, sym, ap, ◌∙◌, true≢false, arith}
+use Rattle.std.proofs.Common.{◌≡◌, ℕ, sym, ap, ◌∙◌, true≢false, arith}
 use Rattle.std.proofs.lemmas.Option.{none-some}
+use Rattle.cove_tvm.proofs.StateExampleProofs.{begun_is_new}
 use Rattle.cove_tvm.specs.Lives.{is_runnable}
 use Rattle.cove_tvm.specs.declared.machines.Life.{Life}
 use Rattle.cove_tvm.proofs.build_examples.worked_beginning.Goals as goal
 
 pub returns-clause-begun : goal.returns-clause-begun
-returns-clause-begun c = λ tables root pages. record {
-  life = refl;
-  regions = refl;
-  registers = refl;
-  allowed = refl;
-  board = pages;
-  root_is = root;
-  pool = refl;
-  room = refl;
-  state_is = refl;
-  no_v0 = refl;
-  no_v1 = refl;
-  no_v2 = refl;
-  no_v3 = refl;
-}
+returns-clause-begun c = begun_is_new
 
 pub returns-clause-another_root : goal.returns-clause-another_root
 returns-clause-another_root c = λ tables root new. let is = sym root ∙ new.root_is in absurd (omega arith)
