@@ -4,4 +4,5 @@ mod CutLemmas
 mod KindLemmas
 mod JoinLemmas
 mod ListedLemmas
+mod SharingLemmas
 pub mod StandingLemmas

@@ -1,32 +1,17 @@
-use Rattle.std.proofs.Common.{◌≡◌, ◌<◌, ◌≤◌, true, length, get_or, subst, sym, refl, arith, ap, ◌∙◌, Some, None}
-use Rattle.std.specs.List.{list_any, position}
+use Rattle.std.proofs.Common.{◌≡◌, ◌<◌, get_or, subst, sym, refl, arith, ap, ◌∙◌, Some}
+use Rattle.std.specs.List.{position}
 use Rattle.std.proofs.lemmas.List.Quantifiers.{position-Some}
 use Rattle.std.proofs.lemmas.List.{get_or_default}
 use Rattle.cove_base.specs.declared.limits.TheConstants.{SHARED_RUN_LIMIT}
 use Rattle.cove_region.specs.declared.areas.Area.{Area}
-use Rattle.cove_region.specs.declared.kinds.AreaKind.TheVariants.{Private, Shared}
-use Rattle.cove_region.specs.GuestMaps.{AreMade, AreOfOneRegion, FormTooManyRows, holds, pages_from, shared_without}
-use Rattle.cove_region.specs.Rows.{AreKept, HasPages, rows_cut}
-use Rattle.cove_region.proofs.KindLemmas.{unshare_few, unshare_full, unshare_inside, unshare_kept, unshare_made, unshare_outside}
-use Rattle.cove_region.proofs.RowLemmas.{position_none}
-use Rattle.cove_region.proofs.JoinLemmas.{carried}
-use Rattle.cove_region.proofs.CutLemmas.{covers-cut, cut_room, cut_rows}
+use Rattle.cove_region.specs.GuestMaps.{holds, pages_from}
+use Rattle.cove_region.proofs.CutLemmas.{cut_room}
+use Rattle.cove_region.proofs.SharingLemmas.{few_without, kept_without, made_private, too_many_without, were_not_shared, were_shared}
 use Rattle.cove_region.proofs.regions.Regions.unshare.Goals as goal
 use Rattle.cove_region.proofs.regions.Regions.unshare.Goals.{else-len-eq-SHARED_RUN_LIMIT-via-then-len-eq-SHARED_RUN_LIMIT+then-row-pages+else-pages-row, else-len-eq-SHARED_RUN_LIMIT-via-then-len-eq-SHARED_RUN_LIMIT+else-row-pages, else-len-eq-SHARED_RUN_LIMIT-via-else-len-eq-SHARED_RUN_LIMIT}
 
 pub returns-in_default-clause-not_inside : goal.returns-in_default-clause-not_inside
-returns-in_default-clause-not_inside c =
-    let regions = c.self.inside.regions.items in
-    let rows = c.self.inside.rows.items in
-    let pages = c.area-pages.result in
-    let pages_is : c.area-pages.result ≡ pages_from c.args.first.0 c.args.count = cc in
-    let some0 : HasPages (pages_from c.args.first.0 c.args.count) = omega arith in
-    let some : HasPages c.area-pages.result = subst HasPages (sym pages_is) some0 in
-    let none : position (holds c.area-pages.result) c.self.inside.rows.items ≡ None = cc in (
-      λ _. carried (λ m p. AreOfOneRegion m Shared p → ⊥) _ _ _ _ c.self.view_is pages_is
-          (unshare_outside regions rows pages c.self.invariant some (position_none (holds pages) rows none)),
-      λ _. refl,
-    )
+returns-in_default-clause-not_inside c = (λ _. were_not_shared c.area-pages.result c.self.view_is (cc) c.self.invariant (omega arith) (cc), λ _. refl)
 
 pub returns-in_default-clause-full : goal.returns-in_default-clause-full
 returns-in_default-clause-full c =
@@ -35,24 +20,12 @@ returns-in_default-clause-full c =
 
 pub returns-then-pages-row-clause-full : goal.returns-then-pages-row-clause-full
 returns-then-pages-row-clause-full c =
-    let regions = c.self.inside.regions.items in
-    let rows = c.self.inside.rows.items in
-    let pages = c.area-pages.result in
-    let pages_is : c.area-pages.result ≡ pages_from c.args.first.0 c.args.count = cc in
-    let some0 : HasPages (pages_from c.args.first.0 c.args.count) = omega arith in
-    let some : HasPages c.area-pages.result = subst HasPages (sym pages_is) some0 in
-    let held : list_any (holds c.area-pages.result) c.self.inside.regions.items ≡ true = cc in
-    let found : position (holds c.area-pages.result) c.self.inside.rows.items ≡ Some c.in-Some.place = cc in
-    let hit = position-Some (holds pages) rows c.in-Some.place pages found in
     let d : Area = record { first = 0; end = 0 } in
-    let hit' = position-Some (holds pages) rows c.in-Some.place d found in
-    let full : length c.self.inside.rows.items ≡ SHARED_RUN_LIMIT = cc in
     let before = subst (λ xs. (get_or xs c.in-Some.place d).first < c.area-pages.result.first) c.deref.ensures.0 c.if-row-pages.true in
     let after = subst (λ xs. c.area-pages.result.end < (get_or xs c.in-Some.place d).end) c.deref.ensures.0 c.if-pages-row.true in (
       λ _. (
-        carried (λ m p. AreOfOneRegion m Shared p) _ _ _ _ c.self.view_is pages_is (unshare_inside regions rows c.in-Some.place pages pages held hit.0 hit.1),
-        carried (λ m p. FormTooManyRows (shared_without m p)) _ _ _ _ c.self.view_is pages_is
-            (unshare_full regions rows c.in-Some.place d pages c.self.invariant some hit'.0 hit'.1 full before after),
+        were_shared c.area-pages.result c.self.view_is (cc) (cc) c.in-Some.place (cc),
+        too_many_without c.area-pages.result c.self.view_is (cc) (cc) c.in-Some.place (cc) c.self.invariant (omega arith) d (cc) before after,
       ),
       λ _. refl,
     )
@@ -78,67 +51,17 @@ cut-requires-clause-room c =
 
 pub invariant_of-self : goal.invariant_of-self
 invariant_of-self c =
-    let regions = c.self.inside.regions.items in
-    let rows = c.self.inside.rows.items in
-    let pages = c.area-pages.result in
-    let pages_is : c.area-pages.result ≡ pages_from c.args.first.0 c.args.count = cc in
-    let some0 : HasPages (pages_from c.args.first.0 c.args.count) = omega arith in
-    let some : HasPages c.area-pages.result = subst HasPages (sym pages_is) some0 in
-    let found : position (holds c.area-pages.result) c.self.inside.rows.items ≡ Some c.in-Some.place = cc in
-    let hit = position-Some (holds pages) rows c.in-Some.place pages found in
-    let row : Area = get_or rows c.in-Some.place pages in
-    let few = subst (λ xs. length xs ≤ SHARED_RUN_LIMIT) c.cut.ensures.rows c.cut.ensures.few in
-    subst (AreKept regions) (sym c.cut.ensures.rows)
-    (unshare_kept regions rows (rows_cut rows c.in-Some.place row pages) pages c.self.invariant
-    (cut_rows rows c.in-Some.place pages pages c.self.invariant.maximal hit.0 hit.1 some) few
-    (covers-cut rows c.in-Some.place pages pages c.self.invariant.maximal hit.0 hit.1 some))
+    kept_without c.area-pages.result {asked = pages_from c.args.first.0 c.args.count} c.self.view_is (cc) (cc) c.in-Some.place (cc) c.self.invariant (omega arith) c.cut.new.rows.items c.cut.ensures.rows c.cut.ensures.few
 
 pub returns-clause-not_inside : goal.returns-clause-not_inside
-returns-clause-not_inside c =
-    let regions = c.self.inside.regions.items in
-    let rows = c.self.inside.rows.items in
-    let pages = c.area-pages.result in
-    let pages_is : c.area-pages.result ≡ pages_from c.args.first.0 c.args.count = cc in
-    let held : list_any (holds c.area-pages.result) c.self.inside.regions.items ≡ true = cc in
-    let found : position (holds c.area-pages.result) c.self.inside.rows.items ≡ Some c.in-Some.place = cc in
-    let hit = position-Some (holds pages) rows c.in-Some.place pages found in (
-      λ other. absurd (cc),
-      λ taken. absurd (taken (carried (λ m p. AreOfOneRegion m Shared p) _ _ _ _ c.self.view_is pages_is
-          (unshare_inside regions rows c.in-Some.place pages pages held hit.0 hit.1))),
-    )
+returns-clause-not_inside c = (λ other. absurd (cc), λ taken. absurd (taken (were_shared c.area-pages.result c.self.view_is (cc) (cc) c.in-Some.place (cc))))
 
 pub returns-clause-full : goal.returns-clause-full
-returns-clause-full c =
-    let regions = c.self.inside.regions.items in
-    let rows = c.self.inside.rows.items in
-    let pages = c.area-pages.result in
-    let pages_is : c.area-pages.result ≡ pages_from c.args.first.0 c.args.count = cc in
-    let some0 : HasPages (pages_from c.args.first.0 c.args.count) = omega arith in
-    let some : HasPages c.area-pages.result = subst HasPages (sym pages_is) some0 in
-    let found : position (holds c.area-pages.result) c.self.inside.rows.items ≡ Some c.in-Some.place = cc in
-    let hit = position-Some (holds pages) rows c.in-Some.place pages found in
-    let row : Area = get_or rows c.in-Some.place pages in
-    let few = subst (λ xs. length xs ≤ SHARED_RUN_LIMIT) c.cut.ensures.rows c.cut.ensures.few in (
-      λ other. absurd (cc),
-      λ both. absurd (carried (λ m p. FormTooManyRows (shared_without m p) → ⊥) _ _ _ _ c.self.view_is pages_is
-          (unshare_few regions rows (rows_cut rows c.in-Some.place row pages) pages
-          (cut_rows rows c.in-Some.place pages pages c.self.invariant.maximal hit.0 hit.1 some) few
-          (covers-cut rows c.in-Some.place pages pages c.self.invariant.maximal hit.0 hit.1 some)) both.1),
-    )
+returns-clause-full c = (
+  λ other. absurd (cc),
+  λ both. absurd (few_without c.area-pages.result c.self.view_is (cc) (cc) c.in-Some.place (cc) c.self.invariant (omega arith) c.cut.new.rows.items c.cut.ensures.rows c.cut.ensures.few both.1),
+)
 
 pub returns-clause-kinds : goal.returns-clause-kinds
 returns-clause-kinds c =
-    let regions = c.self.inside.regions.items in
-    let rows = c.self.inside.rows.items in
-    let pages = c.area-pages.result in
-    let pages_is : c.area-pages.result ≡ pages_from c.args.first.0 c.args.count = cc in
-    let some0 : HasPages (pages_from c.args.first.0 c.args.count) = omega arith in
-    let some : HasPages c.area-pages.result = subst HasPages (sym pages_is) some0 in
-    let held : list_any (holds c.area-pages.result) c.self.inside.regions.items ≡ true = cc in
-    let found : position (holds c.area-pages.result) c.self.inside.rows.items ≡ Some c.in-Some.place = cc in
-    let hit = position-Some (holds pages) rows c.in-Some.place pages found in
-    let row : Area = get_or rows c.in-Some.place pages in
-    let made = unshare_made regions rows (rows_cut rows c.in-Some.place row pages) pages held
-    (covers-cut rows c.in-Some.place pages pages c.self.invariant.maximal hit.0 hit.1 some) in
-    let there = subst (λ xs. AreMade Private pages (record { regions = regions; rows = rows }) (record { regions = regions; rows = xs })) (sym c.cut.ensures.rows) made in
-    carried (λ m p. AreMade Private p m (record { regions = regions; rows = c.cut.new.rows.items })) _ _ _ _ c.self.view_is pages_is there
+    made_private c.area-pages.result c.self.view_is (cc) (cc) c.in-Some.place (cc) c.self.invariant (omega arith) c.cut.new.rows.items c.cut.ensures.rows c.cut.ensures.few
