@@ -37,6 +37,18 @@ leads_on allows old mid new first second = (
 -- ---- where slots stand
 
 module _ (pages : ℕ) (words : List ℕ) (tvm root : ℕ) (pool : List ℕ) (tree : IsTree pages root words) (of : AreGiven pages words tvm root pool) where
+  -- a word of the table that a slot names
+  named_in : (b : Slot) (i place : ℕ) → IsLinkSlot b → i < 512 → (page : ℕ) × (entry_at pages root words b ≡ next_table page) × (place ≡ table_word pages page i)
+      → IsOwnPlace pages words tvm place
+  named_in b i place slot low at = record {
+    page = at.0;
+    i = i;
+    below = (named-outside pages root words tree b at.0 slot at.1).0;
+    low = low;
+    at = at.2;
+    own = inr (of.linked b at.0 slot at.1);
+  }
+
   pub given_in : (a : Slot) (place : ℕ) → IsSlot a → StandsAt pages root words a place → IsOwnPlace pages words tvm place
   given_in (InRoot n) place slot at = record {
     page = root + n / 512;
@@ -46,22 +58,8 @@ module _ (pages : ℕ) (words : List ℕ) (tvm root : ℕ) (pool : List ℕ) (tr
     at = omega arith;
     own = inl (of.root_is.roots (n / 512) (omega arith));
   }
-  given_in (InMiddle n) place slot at = record {
-    page = at.0;
-    i = n % 512;
-    below = (named-outside pages root words tree (InRoot (n / 512)) at.0 (omega arith) at.1).0;
-    low = omega arith;
-    at = at.2;
-    own = inr (of.linked (InRoot (n / 512)) at.0 (omega arith) at.1);
-  }
-  given_in (InLast g) place slot at = record {
-    page = at.0;
-    i = g % 512;
-    below = (named-outside pages root words tree (InMiddle (g / 512)) at.0 (omega arith) at.1).0;
-    low = omega arith;
-    at = at.2;
-    own = inr (of.linked (InMiddle (g / 512)) at.0 (omega arith) at.1);
-  }
+  given_in (InMiddle n) place slot at = named_in (InRoot (n / 512)) (n % 512) place (omega arith) (omega arith) at
+  given_in (InLast g) place slot at = named_in (InMiddle (g / 512)) (g % 512) place (omega arith) (omega arith) at
 
   -- a change at the place of a slot is lawful
   slot_lawful : (harts hart : ℕ) (old : List ℕ) (a : Slot) (place word : ℕ) → IsSlot a → StandsAt pages root words a place

@@ -1,4 +1,4 @@
-use Rattle.std.proofs.Common.{◌≡◌, ◌≢◌, ℕ, ◌/◌, ◌%◌, ◌^◌, ◌<◌, ◌∙◌, Bool, true, false, List, set, ap, arith}
+use Rattle.std.proofs.Common.{◌≡◌, ◌≢◌, ℕ, ◌/◌, ◌%◌, ◌^◌, ◌<◌, ◌∙◌, Bool, true, false, List, set, sym, ap, arith}
 use Rattle.cove_base.proofs.TableLemmas.{below-absent}
 use Rattle.cove_base.proofs.TreeLemmas.{root≢last, middle≢last, last-number}
 use Rattle.cove_base.proofs.TreeStores.{IsStoreAt, OnlyAt, leaf-store, tree-leaf, spare-kept, leaf≢table}
@@ -56,6 +56,15 @@ leaf-changes pages root words g leaf tree h is some = (
   links (InRoot n) low = only.others (InRoot n) low (root≢last n g)
   links (InMiddle n) low = only.others (InMiddle n) low (middle≢last n g)
   links (InLast k) low = absurd low
+
+-- so does one in the table that the way names
+module _ {pages root : ℕ} {words : List ℕ} (tree : IsTree pages root words) {g : ℕ} (low : g < 2 ^ 29) {leaf : ℕ} (is : IsLeaf leaf) (table : ℕ)
+    (named : entry_at pages root words (InMiddle (g / 512)) ≡ next_table table) {place : ℕ} (at : place ≡ table_word pages table (g % 512)) where
+  pub place-is : place ≡ slot_place pages root words (InLast g)
+  place-is = at ∙ sym (below-place pages root words g table named)
+
+  pub leaf-set : ChangesLeaf pages root words (set words place leaf) g leaf × KeepsLinks pages root words (set words place leaf)
+  leaf-set = rw place-is (leaf-changes pages root words g leaf tree low is (λ none. omega arith))
 
 pub present-some : (leaf page : ℕ) (shared : Bool) → leaf ≡ present page shared → leaf ≢ 0
 present-some leaf page false e none = omega arith

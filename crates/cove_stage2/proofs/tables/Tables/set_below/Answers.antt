@@ -1,8 +1,7 @@
 use Rattle.std.proofs.Common.{◌/◌, ◌∙◌, set, sym, ap, subst, arith}
 use Rattle.cove_base.proofs.TreeLemmas.{named-outside, stands-within}
 use Rattle.cove_base.specs.Tables.{InMiddle, InLast}
-use Rattle.cove_stage2.proofs.LeafLemmas.{below-place, leaf-changes}
-use Rattle.cove_stage2.proofs.RestLemmas.{next-some}
+use Rattle.cove_stage2.proofs.LeafLemmas.{leaf-set, place-is}
 use Rattle.cove_stage2.proofs.tables.Tables.set_below.Goals as goal
 
 pub table_word-requires-clause-page : goal.table_word-requires-clause-page
@@ -17,30 +16,18 @@ set-requires-clause-place g c =
 
 pub set-requires-clause-allowed : goal.set-requires-clause-allowed
 set-requires-clause-allowed g c =
-    let words = g.W.Words.words c.args.w.now in
-    let place = c.table_word.ensures ∙ sym (below-place c.args.self.now.pages c.args.self.now.root.0 words c.args.g.0 c.args.table.0 c.requires.table) in
-    subst (λ p. g.W.Words.allows (g.W.Words.guard c.args.w.now) words p c.args.leaf) (sym place) c.requires.allowed.0
+    subst (λ p. g.W.Words.allows (g.W.Words.guard c.args.w.now) (g.W.Words.words c.args.w.now) p c.args.leaf)
+    (sym (place-is c.requires.tree c.requires.guest c.requires.leaf c.args.table.0 c.requires.table c.table_word.ensures)) c.requires.allowed.0
 
 pub returns-clause-stores : goal.returns-clause-stores
 returns-clause-stores g c =
-    let words = g.W.Words.words c.args.w.now in
-    let place = c.table_word.ensures ∙ sym (below-place c.args.self.now.pages c.args.self.now.root.0 words c.args.g.0 c.args.table.0 c.requires.table) in
-    c.set.ensures.words ∙ ap (λ p. set words p c.args.leaf) place
+    c.set.ensures.words ∙ ap (λ p. set (g.W.Words.words c.args.w.now) p c.args.leaf)
+    (place-is c.requires.tree c.requires.guest c.requires.leaf c.args.table.0 c.requires.table c.table_word.ensures)
 
 pub returns-clause-leaf : goal.returns-clause-leaf
 returns-clause-leaf g c =
-    let pages = c.args.self.now.pages in
-    let root = c.args.self.now.root.0 in
-    let words = g.W.Words.words c.args.w.now in
-    let place = c.table_word.ensures ∙ sym (below-place pages root words c.args.g.0 c.args.table.0 c.requires.table) in
-    let new = c.set.ensures.words ∙ ap (λ p. set words p c.args.leaf) place in
-    rw new (leaf-changes pages root words c.args.g.0 c.args.leaf c.requires.tree c.requires.guest c.requires.leaf (next-some _ c.args.table.0 c.requires.table)).0
+    rw c.set.ensures.words (leaf-set c.requires.tree c.requires.guest c.requires.leaf c.args.table.0 c.requires.table c.table_word.ensures).0
 
 pub returns-clause-links : goal.returns-clause-links
 returns-clause-links g c =
-    let pages = c.args.self.now.pages in
-    let root = c.args.self.now.root.0 in
-    let words = g.W.Words.words c.args.w.now in
-    let place = c.table_word.ensures ∙ sym (below-place pages root words c.args.g.0 c.args.table.0 c.requires.table) in
-    let new = c.set.ensures.words ∙ ap (λ p. set words p c.args.leaf) place in
-    rw new (leaf-changes pages root words c.args.g.0 c.args.leaf c.requires.tree c.requires.guest c.requires.leaf (next-some _ c.args.table.0 c.requires.table)).1
+    rw c.set.ensures.words (leaf-set c.requires.tree c.requires.guest c.requires.leaf c.args.table.0 c.requires.table c.table_word.ensures).1
