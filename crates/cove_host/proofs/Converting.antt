@@ -1,6 +1,6 @@
 -- The outcome of a convert.
-use Rattle.std.proofs.Common.{◌≡◌, ℕ, ◌+◌, ◌/◌, ◌≤◌, List, [], ◌∷◌, get_or, length, Ok, true, false, refl, sym, subst, inr, arith}
-use Rattle.std.proofs.lemmas.Bool.{ltb-false, not-false}
+use Rattle.std.proofs.Common.{◌≡◌, ℕ, ◌+◌, ◌/◌, ◌≤◌, List, [], ◌∷◌, get_or, Ok, true, false, refl, sym, inr, arith}
+use Rattle.std.proofs.lemmas.Bool.{not-false}
 use Rattle.std.specs.List.{list_any}
 use Rattle.cove_base.proofs.StoreLemmas.{AllAllowed-weaker, get_or-fills_other}
 use Rattle.cove_base.specs.PageWords.{converting}
@@ -11,6 +11,7 @@ use Rattle.cove_base.specs.declared.statuses.Status.TheVariants.{Success}
 use Rattle.cove_host.proofs.AcceptedCalls.{accepts}
 use Rattle.cove_host.proofs.CheckedLemmas.{each_passes, none_fails}
 use Rattle.cove_host.proofs.Creating.{stays_within}
+use Rattle.cove_host.proofs.PassedChecks.{inside_passes}
 use Rattle.cove_host.proofs.SharedPages.{in_run, unshared_words}
 use Rattle.cove_tvm.specs.Called.{Called, IsReady}
 use Rattle.cove_host.specs.Checked.{all_checked}
@@ -41,9 +42,8 @@ module _ (words : List ℕ) (G : Ground) (hart base n : ℕ) (ready : IsReady wo
   passed S stands =
       let all = told S stands in
       let from_inside = (each_passes (convert_checks S base n) all.0 (sym all.1)).1.1 in
-      let long = stands.words_stand.stands.owners.page_count in
       record {
-        inside = subst (λ pages. base / 4096 + n ≤ pages) long (ltb-false (length S.pages) (base / 4096 + n) from_inside.0);
+        inside = inside_passes base n stands from_inside.0;
         hosts = not-false (every is_host (base / 4096) n S.pages) from_inside.1.0;
         unshared = from_inside.1.1.0;
       }

@@ -1,6 +1,6 @@
 -- The checks and the outcome of a creation.
 use Rattle.std.proofs.Common.{◌≡◌, ℕ, ◌+◌, ◌/◌, ◌<◌, ◌≤◌, ◌⊎◌, ◌∙◌, ◌++◌, ◌&&◌, false, List, [], ◌∷◌, get_or, length, Ok, Err, refl, sym, ap, subst, inl, inr, arith, leb, ltb}
-use Rattle.std.proofs.lemmas.Bool.{and_from, cases_lt, false≢true, le-leb, leb-false, lt-ltb, ltb-false, not-false}
+use Rattle.std.proofs.lemmas.Bool.{and_from, cases_lt, false≢true, le-leb, leb-false, lt-ltb, not-false}
 use Rattle.cove_base.proofs.StoreLemmas.{AllAllowed-split, AllAllowed-weaker, get_or-fills_other, length-stored, stored-append}
 use Rattle.cove_base.specs.PageWords.{given}
 use Rattle.cove_base.specs.Places.{count_word, epoch_word, tvm_word}
@@ -12,6 +12,7 @@ use Rattle.cove_base.specs.declared.numbers.Role.TheVariants.{Root, State}
 use Rattle.cove_base.specs.declared.statuses.Reply.{Reply}
 use Rattle.cove_base.specs.declared.statuses.Status.TheVariants.{Success}
 use Rattle.cove_host.proofs.CheckedLemmas.{each_passes, none_fails, one_fails}
+use Rattle.cove_host.proofs.PassedChecks.{inside_passes}
 use Rattle.cove_host.proofs.ReadyWords.{fences_within}
 use Rattle.cove_tvm.specs.Called.{Called, IsReady}
 use Rattle.cove_host.specs.Checked.{all_checked}
@@ -42,11 +43,10 @@ may_create words G S root state u stands e =
     let all = each_passes (creation_checks S root state) u e in
     let from_inside = all.1.1.1 in
     let from_apart = from_inside.1.1 in
-    let long = stands.words_stand.stands.owners.page_count in
     record {
       room = leb-false TVM_LIMIT S.made all.0;
-      root_inside = subst (λ n. root / 4096 + 4 ≤ n) long (ltb-false (length S.pages) (root / 4096 + 4) from_inside.0);
-      state_inside = subst (λ n. state / 4096 + 1 ≤ n) long (ltb-false (length S.pages) (state / 4096 + 1) from_inside.1.0);
+      root_inside = inside_passes root 4 stands from_inside.0;
+      state_inside = inside_passes state 1 stands from_inside.1.0;
       apart = apart (root / 4096) (state / 4096) from_apart.0;
       root_free = not-false (every is_free (root / 4096) 4 S.pages) from_apart.1.0;
       state_free = not-false (every is_free (state / 4096) 1 S.pages) from_apart.1.1.0;

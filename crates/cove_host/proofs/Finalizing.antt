@@ -1,9 +1,9 @@
 -- The outcome of finalizing a TVM.
-use Rattle.std.proofs.Common.{◌≡◌, ◌-◌, ℕ, zero, suc, List, [], ◌∷◌, Some, refl, sym, subst, arith}
+use Rattle.std.proofs.Common.{◌≡◌, ◌-◌, ℕ, zero, suc, List, [], ◌∷◌, Some, refl, sym}
 use Rattle.std.proofs.lemmas.Option.{none-some}
 use Rattle.cove_base.specs.declared.calls.HostCall.TheVariants.{Finalize}
 use Rattle.cove_base.specs.declared.statuses.Status.TheVariants.{Success}
-use Rattle.cove_host.proofs.PassedCalls.{AllPass, passed_call}
+use Rattle.cove_host.proofs.PassedCalls.{AllPass, passed_call, stands_written}
 use Rattle.cove_host.proofs.CheckedLemmas.{first_passes}
 use Rattle.cove_host.proofs.LifeTold.{both_live}
 use Rattle.cove_tvm.specs.Called.{Called}
@@ -33,13 +33,10 @@ module _ (words : List ℕ) (G H : Ground) (hart pc arg : ℕ) where
   finished (suc k) S tvm model stands live found finishes =
       let done = finishes tvm live in
       let new = done.0 in
-      let before : suc k - 1 ≡ k = omega arith in
       let old = live_stands words G S (suc k) tvm model stands live found in
-      subst (λ ground. Stands words ground (rule S hart (Finalize (suc k) pc arg)).outcome.state) (sym done.2)
-      (subst (λ n. Stands words (record G { tvms = with_tvm G.tvms n new }) (rule S hart (Finalize (suc k) pc arg)).outcome.state) (sym before)
-      (subst (λ one. Stands words (record G { tvms = with_tvm G.tvms k one }) (rule S hart (Finalize (suc k) pc arg)).outcome.state) (sym done.1.rest)
+      stands_written G G.memory k done.2 done.1.rest
       (finalize_stands k words G S hart pc arg tvm model new.registers new.v0 new.v1 new.v2 new.v3 stands live found
-      (done.1.measured model.records model.extensions old.fields.registers) done.1.v0 done.1.v1 done.1.v2 done.1.v3)))
+      (done.1.measured model.records model.extensions old.fields.registers) done.1.v0 done.1.v1 done.1.v2 done.1.v3)
 
   -- an accepted call, by what the code leaves
   pub finalizes : (t : ℕ) → AllPass hart (Finalize t pc arg) words G → Finishes t

@@ -1,14 +1,15 @@
 -- A TVM is given measured memory: what the checks tell, and what the code leaves.
-use Rattle.std.proofs.Common.{◌≡◌, ◌∙◌, ℕ, zero, suc, ◌+◌, ◌*◌, ◌/◌, ◌%◌, ◌^◌, ◌<◌, ◌≤◌, ◌⊎◌, ◌==◌, true, false, eqb-true, List, [], ◌∷◌, ◌++◌, get_or, length, refl, sym, ap, subst, inl, inr, arith}
-use Rattle.std.proofs.lemmas.Bool.{cases_lt, false≢true, ltb-false, not-false}
+use Rattle.std.proofs.Common.{◌≡◌, ◌∙◌, ℕ, zero, suc, ◌+◌, ◌*◌, ◌/◌, ◌%◌, ◌^◌, ◌<◌, ◌≤◌, ◌⊎◌, ◌==◌, true, false, eqb-true, List, [], ◌∷◌, ◌++◌, get_or, length, refl, sym, ap, inl, inr, arith}
+use Rattle.std.proofs.lemmas.Bool.{cases_lt, false≢true, not-false}
 use Rattle.std.proofs.lemmas.List.{ext_get_or}
 use Rattle.std.proofs.lemmas.List.FromFn.{get_or-map-range_with_len, length-map-range_with_len}
 use Rattle.cove_base.specs.Measurement.{registers_of}
 use Rattle.cove_base.specs.declared.calls.HostCall.TheVariants.{Measured}
 use Rattle.cove_base.specs.declared.statuses.Status.TheVariants.{Success}
 use Rattle.cove_host.proofs.CheckedLemmas.{each_passes}
-use Rattle.cove_host.proofs.GrowingRuns.{Grows, grows, run_called, run_mapped, stands_written}
-use Rattle.cove_host.proofs.PassedCalls.{AllPass}
+use Rattle.cove_host.proofs.GrowingRuns.{Grows, grows, run_called, run_mapped}
+use Rattle.cove_host.proofs.PassedCalls.{AllPass, stands_written}
+use Rattle.cove_host.proofs.PassedChecks.{inside_passes}
 use Rattle.cove_host.specs.GuestRuns.{mapping_checks}
 use Rattle.cove_host.specs.MeasuredRuns.{MeasuresOf, frames_from}
 use Rattle.cove_model.proofs.Runs.{every_at}
@@ -54,11 +55,10 @@ module _ {words : List ℕ} {G : Ground} (ready : IsReady words G) (src dst n gp
       let from_gpa = all.1.1.1.1.1 in
       let from_owners = from_gpa.1.1.1 in
       let from_unmapped = from_owners.1.1.1 in
-      let long = stands.words_stand.stands.owners.page_count in
       let whole : gpa % 4096 ≡ 0 = eqb-true (gpa % 4096) 0 (not-false (gpa % 4096 == 0) from_gpa.0) in
       record {
         grown = grows ready dst n gpa near is_free t S stands all.0 from_gpa.1.1.0 from_owners.1.0 from_unmapped.0 from_unmapped.1.0;
-        inside = subst (λ m. src / 4096 + n ≤ m) long (ltb-false (length S.pages) (src / 4096 + n) from_gpa.1.0);
+        inside = inside_passes src n stands from_gpa.1.0;
         hosts = not-false (every is_host (src / 4096) n S.pages) from_owners.0;
         place = omega (arith, whole);
       }

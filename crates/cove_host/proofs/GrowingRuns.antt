@@ -1,5 +1,5 @@
 -- Guest pages of a TVM are mapped to a run of pages: what the checks tell, and what the code leaves.
-use Rattle.std.proofs.Common.{◌≡◌, ◌∙◌, ◌-◌, ℕ, zero, suc, ◌+◌, ◌/◌, ◌^◌, ◌≤◌, Bool, false, is_some, not, List, ◌∷◌, length, Some, Ok, sym, ap, subst, inr, arith}
+use Rattle.std.proofs.Common.{◌≡◌, ◌∙◌, ℕ, zero, suc, ◌+◌, ◌/◌, ◌^◌, ◌≤◌, Bool, false, is_some, not, List, ◌∷◌, Some, Ok, sym, ap, subst, inr, arith}
 use Rattle.std.proofs.lemmas.Bool.{ltb-false, not-false}
 use Rattle.std.proofs.lemmas.Option.{none-some, same_Some}
 use Rattle.std.specs.List.{list_any}
@@ -9,6 +9,7 @@ use Rattle.cove_base.specs.declared.statuses.Status.TheVariants.{InvalidAddress,
 use Rattle.cove_host.proofs.CheckedLemmas.{each_passes}
 use Rattle.cove_host.proofs.LifeTold.{both_live}
 use Rattle.cove_host.proofs.PassedCalls.{AllPass, lawful_call}
+use Rattle.cove_host.proofs.PassedChecks.{inside_passes}
 use Rattle.cove_host.specs.Checked.{all_checked}
 use Rattle.cove_host.specs.GuestRuns.{mapping_checks}
 use Rattle.cove_host.specs.Mapped.{MapsRun, MayMapBy}
@@ -28,7 +29,6 @@ use Rattle.cove_tvm.proofs.RunsStand.{Prepares, run_may, was}
 use Rattle.cove_tvm.specs.Called.{Called, IsMet, IsReady}
 use Rattle.cove_tvm.specs.MappedRuns.{AreMapped, MayMap}
 use Rattle.cove_tvm.specs.Stands.{Stands}
-use Rattle.cove_tvm.specs.TvmLends.{with_tvm}
 use Rattle.cove_tvm.specs.TvmTables.{live_at}
 use Rattle.cove_tvm.specs.UnmappedRuns.{MayMapIn}
 use Rattle.cove_tvm.specs.declared.ground.Ground.{Ground}
@@ -66,7 +66,6 @@ module _ {words : List ℕ} {G : Ground} (ready : IsReady words G) (base n gpa :
           → (Unmapped S u gpa n).fails ≡ false → (EnoughTables S u gpa n).fails ≡ false → Grows test words G S u base n gpa
       go zero both none some = absurd (none-some both.0 both.2)
       go (suc k) both none some =
-          let long = stands.words_stand.stands.owners.page_count in
           let missing : missing_tables (unwrap_or (find_tvm S (suc k)) (new_tvm (suc k))) gpa n ≤ 0 = ltb-false 0 (missing_tables (unwrap_or (find_tvm S (suc k)) (new_tvm (suc k))) gpa n) some in
           let same : missing_tables (unwrap_or (find_tvm S (suc k)) (new_tvm (suc k))) gpa n ≡ missing_tables both.1 gpa n =
           ap (λ x. missing_tables (unwrap_or x (new_tvm (suc k))) gpa n) both.3 in
@@ -78,7 +77,7 @@ module _ {words : List ℕ} {G : Ground} (ready : IsReady words G) (base n gpa :
               few = ready.page_limit;
               live = both.2;
               found = both.3;
-              inside = subst (λ m. base / 4096 + n ≤ m) long (ltb-false (length S.pages) (base / 4096 + n) inside);
+              inside = inside_passes base n stands inside;
               owners = not-false (every test (base / 4096) n S.pages) owners;
               near = near;
               unmapped = ap (λ x. list_any (λ g. is_some (mapping_of (unwrap_or x (new_tvm (suc k))) g)) (guests gpa n)) (sym both.3) ∙ none;
@@ -129,13 +128,3 @@ module _ {test : Owner → Bool} {shared : Bool} {words mid : List ℕ} {G : Gro
       let inside = may.inside in
       lawful_call hart call words new G H told after none (leads_on (IsLawful G.pages G.harts hart words) words mid new lawful (run.lawful hart words))
       (λ at past. run.elsewhere at (behind_elsewhere G.pages mid (suc k) at (omega arith)) ∙ prepared.others at (inr (omega arith)))
-
--- the ground with frames that were filled and a TVM that was written anew
-pub stands_written : (G : Ground) (frames : List (List ℕ)) (k : ℕ) {H : Ground} {T : State} {new : List ℕ} {now renewed : Tvm}
-    → H ≡ record G { memory = frames; tvms = with_tvm G.tvms (suc k - 1) now } → now ≡ renewed
-    → Stands new (record G { memory = frames; tvms = with_tvm G.tvms k renewed }) T → Stands new H T
-stands_written G frames k {H} {T} {new} {now} {renewed} is same stands =
-    let before : suc k - 1 ≡ k = omega arith in
-    subst (λ ground. Stands new ground T) (sym is)
-    (subst (λ m. Stands new (record G { memory = frames; tvms = with_tvm G.tvms m now }) T) (sym before)
-    (subst (λ one. Stands new (record G { memory = frames; tvms = with_tvm G.tvms k one }) T) (sym same) stands))

@@ -2,8 +2,8 @@
 use Rattle.std.proofs.Common.{true, ◌≡◌, ℕ, zero, suc, ◌+◌, ◌/◌, ◌^◌, ◌≤◌, List, Some, refl, arith}
 use Rattle.cove_base.specs.declared.calls.HostCall.TheVariants.{Shared}
 use Rattle.cove_base.specs.declared.statuses.Status.TheVariants.{Success}
-use Rattle.cove_host.proofs.GrowingRuns.{Grows, run_allowed, run_called, run_grows, run_mapped, stands_written}
-use Rattle.cove_host.proofs.PassedCalls.{AllPass}
+use Rattle.cove_host.proofs.GrowingRuns.{Grows, run_allowed, run_called, run_grows, run_mapped}
+use Rattle.cove_host.proofs.PassedCalls.{AllPass, stands_written}
 use Rattle.cove_host.proofs.ReadyWords.{few_maps}
 use Rattle.cove_host.specs.Mapped.{MapsOf, MayMapBy}
 use Rattle.cove_host.specs.Raised.{AreHosts, MayRaise, RaisesBy}

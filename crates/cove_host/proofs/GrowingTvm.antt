@@ -4,8 +4,8 @@ use Rattle.cove_base.proofs.StoreLemmas.{AllAllowed-weaker}
 use Rattle.cove_base.specs.Stores.{AllAllowed}
 use Rattle.cove_base.specs.declared.calls.HostCall.TheVariants.{Zero}
 use Rattle.cove_base.specs.declared.statuses.Status.TheVariants.{Success}
-use Rattle.cove_host.proofs.GrowingRuns.{Grows, run_allowed, run_called, run_grows, run_mapped, stands_written}
-use Rattle.cove_host.proofs.PassedCalls.{AllPass}
+use Rattle.cove_host.proofs.GrowingRuns.{Grows, run_allowed, run_called, run_grows, run_mapped}
+use Rattle.cove_host.proofs.PassedCalls.{AllPass, stands_written}
 use Rattle.cove_host.specs.Mapped.{MapsOf, MayMapBy}
 use Rattle.cove_model.specs.LawfulStores.{AllowsLawful, IsLawful}
 use Rattle.cove_model.specs.Owners.{is_free, zeros}

@@ -1,5 +1,5 @@
 -- What a call leaves that every check lets pass, by its stores.
-use Rattle.std.proofs.Common.{◌≡◌, ◌≤◌, ◌∙◌, ℕ, List, get_or, Ok, sym, ap, subst, arith}
+use Rattle.std.proofs.Common.{◌≡◌, ◌-◌, ◌≤◌, ◌∙◌, ℕ, suc, List, get_or, Ok, sym, ap, subst, arith}
 use Rattle.cove_base.specs.Places.{count_word, epoch_word, tvm_word}
 use Rattle.cove_base.specs.Stores.{AllAllowed, stored}
 use Rattle.cove_base.specs.declared.calls.HostCall.{HostCall}
@@ -12,7 +12,9 @@ use Rattle.cove_model.specs.HostCalls.{rule}
 use Rattle.cove_model.specs.LawfulStores.{IsLawful, MakesLawful}
 use Rattle.cove_model.specs.States.{State}
 use Rattle.cove_tvm.specs.Stands.{Stands}
+use Rattle.cove_tvm.specs.TvmLends.{with_tvm}
 use Rattle.cove_tvm.specs.declared.ground.Ground.{Ground}
+use Rattle.cove_tvm.specs.declared.machines.Tvm.{Tvm}
 
 -- every check passes in every state that words and ground stand for
 abbrev pub AllPass : (hart : ℕ) → HostCall → List ℕ → Ground → Type 0
@@ -47,3 +49,13 @@ lawful_call hart call words new G H told after none lawful behind =
     (passed_call hart call words G H lawful.0 told
     (λ S met stands. subst (λ ws. Stands ws H (rule S hart call).outcome.state) lawful.2 (after S met stands)) none lawful.1
     (λ at past. ap (λ ws. get_or ws at 0) (sym lawful.2) ∙ behind at past))
+
+-- the ground with frames that were filled and a TVM that was written anew
+pub stands_written : (G : Ground) (frames : List (List ℕ)) (k : ℕ) {H : Ground} {T : State} {new : List ℕ} {now renewed : Tvm}
+    → H ≡ record G { memory = frames; tvms = with_tvm G.tvms (suc k - 1) now } → now ≡ renewed
+    → Stands new (record G { memory = frames; tvms = with_tvm G.tvms k renewed }) T → Stands new H T
+stands_written G frames k {H} {T} {new} {now} {renewed} is same stands =
+    let before : suc k - 1 ≡ k = omega arith in
+    subst (λ ground. Stands new ground T) (sym is)
+    (subst (λ m. Stands new (record G { memory = frames; tvms = with_tvm G.tvms m now }) T) (sym before)
+    (subst (λ one. Stands new (record G { memory = frames; tvms = with_tvm G.tvms k one }) T) (sym same) stands))

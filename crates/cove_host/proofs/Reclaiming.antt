@@ -1,6 +1,6 @@
 -- The outcome of a reclaim.
-use Rattle.std.proofs.Common.{◌≡◌, ℕ, ◌+◌, ◌/◌, ◌<◌, ◌≤◌, List, [], ◌∷◌, get_or, length, Ok, true, refl, sym, subst, inr, arith}
-use Rattle.std.proofs.lemmas.Bool.{ltb-false, not-false}
+use Rattle.std.proofs.Common.{◌≡◌, ℕ, ◌+◌, ◌/◌, ◌<◌, ◌≤◌, List, [], ◌∷◌, get_or, Ok, true, refl, sym, subst, inr, arith}
+use Rattle.std.proofs.lemmas.Bool.{not-false}
 use Rattle.cove_base.proofs.StoreLemmas.{AllAllowed-weaker, get_or-fills_other}
 use Rattle.cove_base.specs.PageWords.{host}
 use Rattle.cove_base.specs.Places.{count_word}
@@ -10,6 +10,7 @@ use Rattle.cove_base.specs.declared.statuses.Status.TheVariants.{Success}
 use Rattle.cove_host.proofs.AcceptedCalls.{accepts}
 use Rattle.cove_host.proofs.CheckedLemmas.{each_passes, none_fails}
 use Rattle.cove_host.proofs.Creating.{stays_within}
+use Rattle.cove_host.proofs.PassedChecks.{inside_passes}
 use Rattle.cove_tvm.specs.Called.{Called, IsReady}
 use Rattle.cove_host.specs.Checked.{all_checked}
 use Rattle.cove_model.proofs.LawfulProofs.{reclaim_is_lawful}
@@ -36,10 +37,7 @@ module _ (words : List ℕ) (G : Ground) (hart base n : ℕ) (ready : IsReady wo
   passed S stands =
       let all = told S stands in
       let from_inside = (each_passes (reclaim_checks S base n) all.0 (sym all.1)).1.1 in
-      let long = stands.words_stand.stands.owners.page_count in (
-        subst (λ pages. base / 4096 + n ≤ pages) long (ltb-false (length S.pages) (base / 4096 + n) from_inside.0),
-        not-false (every is_free (base / 4096) n S.pages) from_inside.1.0,
-      )
+      (inside_passes base n stands from_inside.0, not-false (every is_free (base / 4096) n S.pages) from_inside.1.0)
 
   inside : base / 4096 + n ≤ G.pages
   inside = (passed ready.state ready.stands).0

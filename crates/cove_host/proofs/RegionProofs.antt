@@ -10,7 +10,7 @@ use Rattle.std.specs.Prelude.{IsTrue, OnOk, unwrap_or}
 use Rattle.cove_base.specs.declared.calls.HostCall.TheVariants.{Region}
 use Rattle.cove_base.specs.declared.limits.TheConstants.{REGION_LIMIT}
 use Rattle.cove_base.specs.declared.statuses.Status.TheVariants.{Success}
-use Rattle.cove_host.proofs.PassedCalls.{AllPass, passed_call}
+use Rattle.cove_host.proofs.PassedCalls.{AllPass, passed_call, stands_written}
 use Rattle.cove_host.proofs.CheckedLemmas.{each_passes}
 use Rattle.cove_host.proofs.LifeTold.{both_live}
 use Rattle.cove_tvm.specs.Called.{Called}
@@ -138,7 +138,6 @@ module _ (words : List ℕ) (G H : Ground) (hart gpa len : ℕ) where
   after (suc k) S stands one adds =
       let done = adds one.old one.live in
       let new = done.0 in
-      let before : suc k - 1 ≡ k = omega arith in
       let begins = one.begins in
       let lasts = one.lasts in
       let some_len = one.some in
@@ -150,12 +149,10 @@ module _ (words : List ℕ) (G H : Ground) (hart gpa len : ℕ) where
       let room : length one.old.regions.regions < REGION_LIMIT =
       subst (λ n. n < REGION_LIMIT) (sym (many_told one.old.regions one.model regions)) one.room in
       let has = done.1.added outside room in
-      subst (λ ground. Stands words ground (rule S hart (Region (suc k) gpa len)).outcome.state) (sym done.2)
-      (subst (λ n. Stands words (record G { tvms = with_tvm G.tvms n new }) (rule S hart (Region (suc k) gpa len)).outcome.state) (sym before)
-      (subst (λ one. Stands words (record G { tvms = with_tvm G.tvms k one }) (rule S hart (Region (suc k) gpa len)).outcome.state) (sym done.1.rest)
+      stands_written G G.memory k done.2 done.1.rest
       (region_stands k words G S hart gpa len one.old one.model new.regions stands one.live one.found
       (added-stand one.old.regions new.regions one.model (with_region gpa len one.model) regions (gpa / 4096) (len / 4096) some one.apart has.kinds has.regions refl refl)
-      (near one.old.regions new.regions one.within one.begins one.lasts has.regions was.fields.near))))
+      (near one.old.regions new.regions one.within one.begins one.lasts has.regions was.fields.near))
 
   -- an accepted call, by what the code leaves
   pub adds_region : (t : ℕ) → AllPass hart (Region t gpa len) words G → Adds t

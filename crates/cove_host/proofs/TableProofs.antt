@@ -1,6 +1,5 @@
 -- The outcome of a call that gives a TVM more table pages.
-use Rattle.std.proofs.Common.{◌≡◌, ◌-◌, ◌+◌, ◌/◌, ◌≤◌, ◌∙◌, ℕ, zero, suc, true, List, [], ◌∷◌, get_or, length, Some, Ok, refl, sym, subst, inr, arith}
-use Rattle.std.proofs.lemmas.Bool.{ltb-false, not-false}
+use Rattle.std.proofs.Common.{◌≡◌, ◌-◌, ◌+◌, ◌/◌, ◌≤◌, ◌∙◌, ℕ, zero, suc, List, [], ◌∷◌, get_or, length, Some, refl, sym, subst, inr, arith}
 use Rattle.std.proofs.lemmas.Option.{none-some, same_Some}
 use Rattle.cove_base.proofs.StoreLemmas.{AllAllowed-weaker, get_or-fills_other}
 use Rattle.cove_base.specs.PageWords.{given}
@@ -8,20 +7,16 @@ use Rattle.cove_base.specs.Stores.{AllAllowed, stored}
 use Rattle.cove_base.specs.declared.calls.HostCall.TheVariants.{Tables}
 use Rattle.cove_base.specs.declared.numbers.Role.TheVariants.{Table}
 use Rattle.cove_base.specs.declared.statuses.Status.TheVariants.{Success}
-use Rattle.cove_host.proofs.PassedCalls.{AllPass, passed_call}
+use Rattle.cove_host.proofs.PassedCalls.{AllPass, passed_call, stands_written}
+use Rattle.cove_host.proofs.PassedChecks.{Gives, gives, may_give}
 use Rattle.cove_host.proofs.CheckedLemmas.{each_passes}
-use Rattle.cove_host.proofs.LifeTold.{both_live}
 use Rattle.cove_tvm.specs.Called.{Called, IsReady}
-use Rattle.cove_host.specs.Checked.{all_checked}
 use Rattle.cove_model.specs.Checks.{AllFree, Inside, Live}
 use Rattle.cove_model.specs.HostCalls.{rule}
 use Rattle.cove_model.specs.LawfulStores.{AllowsLawful, IsLawful}
-use Rattle.cove_model.specs.Owners.{every, is_free}
 use Rattle.cove_model.specs.Refusals.{Aligned, Check, Count}
-use Rattle.cove_model.specs.States.{State, find_tvm}
-use Rattle.cove_model.specs.Tvms.{Tvm as ModelTvm}
+use Rattle.cove_model.specs.States.{State}
 use Rattle.cove_tvm.proofs.GivenTables.{tables_are_lawful, tables_fit, tables_stand}
-use Rattle.cove_tvm.specs.GivenRuns.{MayGive}
 use Rattle.cove_tvm.specs.MoreTables.{AddsTables, tables_stores}
 use Rattle.cove_tvm.specs.Stands.{Stands}
 use Rattle.cove_tvm.specs.TvmLends.{with_tvm}
@@ -33,47 +28,23 @@ use Rattle.cove_tvm.specs.declared.machines.Tvm.{Tvm}
 abbrev pub tables_checks : State → (t base n : ℕ) → List Check
 tables_checks S t base n = Live S t ∷ Count n ∷ Aligned base ∷ Inside S base n ∷ AllFree S base n ∷ []
 
--- what is known of a call that all checks let pass
-record Passed (words : List ℕ) (G : Ground) (S : State) (t base n : ℕ) : Type 0 where
-  old : Tvm
-  model : ModelTvm
-  live : live_at G.tvms t ≡ Some old
-  found : find_tvm S t ≡ Some model
-  inside : base / 4096 + n ≤ G.pages
-  free : every is_free (base / 4096) n S.pages ≡ true
-
-passed : (words : List ℕ) (G : Ground) (S : State) (t base n : ℕ) (u : Unit {0}) → Stands words G S → all_checked (tables_checks S t base n) ≡ Ok u
-    → Passed words G S t base n
-passed words G S t base n u stands e =
-    let all = each_passes (tables_checks S t base n) u e in
-    let from_inside = all.1.1.1 in
-    let both = both_live words G S t (live_at G.tvms t) (find_tvm S t) (stands.tvm t) all.0 in
-    let long = stands.words_stand.stands.owners.page_count in
-    record {
-      old = both.0;
-      model = both.1;
-      live = both.2;
-      found = both.3;
-      inside = subst (λ m. base / 4096 + n ≤ m) long (ltb-false (length S.pages) (base / 4096 + n) from_inside.0);
-      free = not-false (every is_free (base / 4096) n S.pages) from_inside.1.0;
-    }
-
 module _ (words : List ℕ) (G : Ground) (hart base n : ℕ) (ready : IsReady words G) where
-  pass : (t : ℕ) → AllPass hart (Tables t base n) words G → (S : State) → Stands words G S → Passed words G S t base n
-  pass t told S stands = let one = told S stands in passed words G S t base n one.0 stands (sym one.1)
+  pass : (t : ℕ) → AllPass hart (Tables t base n) words G → (S : State) → Stands words G S → Gives words G S t base n
+  pass t told S stands =
+      let one = told S stands in
+      let all = each_passes (tables_checks S t base n) one.0 (sym one.1) in
+      let from_inside = all.1.1.1 in
+      gives t base n stands all.0 from_inside.0 from_inside.1.0
 
   -- the pages are on the board
   pages_inside : (t : ℕ) → AllPass hart (Tables t base n) words G → base / 4096 + n ≤ G.pages
   pages_inside t told = (pass t told ready.state ready.stands).inside
 
-  may : (k : ℕ) (S : State) (stands : Stands words G S) (one : Passed words G S (suc k) base n) → MayGive words G S k base n one.old one.model
-  may k S stands one = record { stands = stands; live = one.live; found = one.found; inside = one.inside; free = one.free }
-
   stores_lawful : (t : ℕ) → AllPass hart (Tables t base n) words G → AllAllowed (IsLawful G.pages G.harts hart words) words (tables_stores t base n)
   stores_lawful zero told = let one = pass 0 told ready.state ready.stands in absurd (none-some one.old one.live)
   stores_lawful (suc k) told =
       let one = pass (suc k) told ready.state ready.stands in
-      tables_are_lawful k words G ready.state hart base n one.old one.model (may k ready.state ready.stands one)
+      tables_are_lawful k words G ready.state hart base n one.old one.model (may_give ready.stands one)
 
   -- and so allowed where every lawful store is
   pub stores_allowed : (allows : List ℕ → ℕ → ℕ → Type 0) → AllowsLawful allows G.pages G.harts hart words → (t : ℕ) → AllPass hart (Tables t base n) words G
@@ -87,7 +58,7 @@ module _ (words : List ℕ) (G : Ground) (hart base n : ℕ) (ready : IsReady wo
   pool_room (suc k) told tvm live =
       let one = pass (suc k) told ready.state ready.stands in
       subst (λ (x : Tvm). length x.pool.pages + n ≤ x.pool.room) (same_Some one.old tvm (sym one.live ∙ live))
-      (tables_fit k words G ready.state base n one.old one.model (may k ready.state ready.stands one))
+      (tables_fit k words G ready.state base n one.old one.model (may_give ready.stands one))
 
   module _ (H : Ground) where
     abbrev Adds : (t : ℕ) → Type 0
@@ -95,15 +66,12 @@ module _ (words : List ℕ) (G : Ground) (hart base n : ℕ) (ready : IsReady wo
         (old : Tvm) → live_at G.tvms t ≡ Some old
         → (new : Tvm) × AddsTables base n old new × (H ≡ record G { tvms = with_tvm G.tvms (t - 1) new })
 
-    after : (t : ℕ) (S : State) (stands : Stands words G S) → Passed words G S t base n → Adds t
+    after : (t : ℕ) (S : State) (stands : Stands words G S) → Gives words G S t base n → Adds t
         → Stands (stored words (tables_stores t base n)) H (rule S hart (Tables t base n)).outcome.state
     after zero S stands one adds = absurd (none-some one.old one.live)
     after (suc k) S stands one adds =
         let done = adds one.old one.live in
-        let before : suc k - 1 ≡ k = omega arith in
-        subst (λ ground. Stands (stored words (tables_stores (suc k) base n)) ground (rule S hart (Tables (suc k) base n)).outcome.state) (sym done.2)
-        (subst (λ m. Stands (stored words (tables_stores (suc k) base n)) (record G { tvms = with_tvm G.tvms m done.0 }) (rule S hart (Tables (suc k) base n)).outcome.state) (sym before)
-        (tables_stand k words G S hart base n one.old done.0 one.model (may k S stands one) done.1))
+        stands_written G G.memory k done.2 refl (tables_stand k words G S hart base n one.old done.0 one.model (may_give stands one) done.1)
 
     behind : (t : ℕ) → AllPass hart (Tables t base n) words G → (at : ℕ) → G.pages ≤ at → get_or (stored words (tables_stores t base n)) at 0 ≡ get_or words at 0
     behind t told at past = let inside = pages_inside t told in get_or-fills_other words (base / 4096) n (given t Table) at (inr (omega arith))
