@@ -34,15 +34,15 @@ failed_first true reply said rest found more e = grind arith
 failed_first false reply said rest found more e = more e
 
 -- a check that passes leaves the answer to those after it
-pub passes : (check : Check) (rest : List Check) (r : Answer) (u : Unit {0}) → r ≡ checked check → r ≡ Ok u → all_checked (check ∷ rest) ≡ all_checked rest
+passes : (check : Check) (rest : List Check) (r : Answer) (u : Unit {0}) → r ≡ checked check → r ≡ Ok u → all_checked (check ∷ rest) ≡ all_checked rest
 passes check rest r u is ok = passing check.fails (record { status = check.status; value = check.value }) (all_checked rest) u (sym is ∙ ok)
 
 -- and one that fails answers
-pub fails : (check : Check) (rest : List Check) (r : Answer) (reply : Reply) → r ≡ checked check → r ≡ Err reply → all_checked (check ∷ rest) ≡ Err reply
+fails : (check : Check) (rest : List Check) (r : Answer) (reply : Reply) → r ≡ checked check → r ≡ Err reply → all_checked (check ∷ rest) ≡ Err reply
 fails check rest r reply is err = failing check.fails (record { status = check.status; value = check.value }) reply (all_checked rest) (sym is ∙ err)
 
 -- where all pass, the first does, and so do the rest
-pub first_passes : (check : Check) (rest : List Check) (u : Unit {0}) → all_checked (check ∷ rest) ≡ Ok u → (check.fails ≡ false) × (all_checked rest ≡ Ok u)
+first_passes : (check : Check) (rest : List Check) (u : Unit {0}) → all_checked (check ∷ rest) ≡ Ok u → (check.fails ≡ false) × (all_checked rest ≡ Ok u)
 first_passes check rest u e = passed_first check.fails (record { status = check.status; value = check.value }) (all_checked rest) u e
 
 -- where all pass, each does

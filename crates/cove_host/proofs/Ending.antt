@@ -1,5 +1,5 @@
 -- The end of a TVM, and the outcome of its destruction.
-use Rattle.std.proofs.Common.{◌≡◌, ℕ, zero, suc, ◌+◌, ◌-◌, ◌^◌, ◌<◌, ◌≤◌, false, true, List, [], ◌∷◌, ◌++◌, get_or, length, Option, Some, None, Ok, refl, sym, subst, arith}
+use Rattle.std.proofs.Common.{◌≡◌, ℕ, zero, suc, ◌+◌, ◌-◌, ◌^◌, ◌<◌, ◌≤◌, false, true, List, ◌∷◌, ◌++◌, get_or, length, Option, Some, None, Ok, refl, sym, subst, arith}
 use Rattle.std.proofs.lemmas.Option.{none-some}
 use Rattle.std.specs.List.{range_with_len}
 use Rattle.cove_base.proofs.StoreLemmas.{AllAllowed-weaker}
@@ -10,7 +10,7 @@ use Rattle.cove_base.specs.declared.statuses.Status.TheVariants.{Success}
 use Rattle.cove_stage2.proofs.LawfulLemmas.{leads_on}
 use Rattle.cove_clear.specs.Leaving.{Goes, IsLeaving, MayLeave, Proceeds}
 use Rattle.cove_host.proofs.Beginning.{begins_leaving}
-use Rattle.cove_host.proofs.CheckedLemmas.{first_passes, none_fails}
+use Rattle.cove_host.proofs.CheckedLemmas.{each_passes, none_fails}
 use Rattle.cove_host.proofs.LifeTold.{both_live}
 use Rattle.cove_host.proofs.TakenPages.{all_destroys, all_lawful, all_own}
 use Rattle.cove_tvm.specs.Called.{Called, IsMet, IsReady}
@@ -18,7 +18,6 @@ use Rattle.cove_host.specs.Checked.{all_checked}
 use Rattle.cove_host.specs.Ended.{HasEnded, IsEnding, MayEnd}
 use Rattle.cove_host.specs.Inside.{is_inside}
 use Rattle.cove_host.specs.Released.{HavePlaces, all_cpu_pages, release_stores}
-use Rattle.cove_model.specs.Checks.{Live, NobodyInside}
 use Rattle.cove_model.specs.HostCalls.{rule}
 use Rattle.cove_model.specs.LawfulStores.{AllowsLawful, IsLawful, MakesLawful}
 use Rattle.cove_model.specs.States.{State, find_tvm}
@@ -147,8 +146,8 @@ module _ (words : List ℕ) (G : Ground) (hart t : ℕ) (ready : IsReady words G
     both : (S : State) (stands : Stands words G S) → (tvm : Tvm) × (model : ModelTvm) × (live_at G.tvms t ≡ Some tvm) × (find_tvm S t ≡ Some model)
     both S stands =
         let one = told S stands in
-        let first = first_passes (Live S t) (NobodyInside S t ∷ []) one.0 (sym one.1) in
-        both_live words G S t (live_at G.tvms t) (find_tvm S t) (stands.tvm t) first.0
+        let all = each_passes (rule S hart (Destroy t)).checks one.0 (sym one.1) in
+        both_live words G S t (live_at G.tvms t) (find_tvm S t) (stands.tvm t) all.0
 
     destroyed : (S : State) → IsMet S → (stands : Stands words G S) → Destroys G.pages words new t
     destroyed S met stands =

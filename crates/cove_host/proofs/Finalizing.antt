@@ -1,14 +1,13 @@
 -- The outcome of finalizing a TVM.
-use Rattle.std.proofs.Common.{◌≡◌, ◌-◌, ℕ, zero, suc, List, [], ◌∷◌, Some, refl, sym}
+use Rattle.std.proofs.Common.{◌≡◌, ◌-◌, ℕ, zero, suc, List, [], Some, refl, sym}
 use Rattle.std.proofs.lemmas.Option.{none-some}
 use Rattle.cove_base.specs.declared.calls.HostCall.TheVariants.{Finalize}
 use Rattle.cove_base.specs.declared.statuses.Status.TheVariants.{Success}
 use Rattle.cove_host.proofs.PassedCalls.{AllPass, passed_call, stands_written}
-use Rattle.cove_host.proofs.CheckedLemmas.{first_passes}
+use Rattle.cove_host.proofs.CheckedLemmas.{each_passes}
 use Rattle.cove_host.proofs.LifeTold.{both_live}
 use Rattle.cove_tvm.specs.Called.{Called}
 use Rattle.cove_host.specs.Finalized.{IsFinalized}
-use Rattle.cove_model.specs.Checks.{HasSomeCpu, IsBuilding, Live, PlaceAligned}
 use Rattle.cove_model.specs.HostCalls.{rule}
 use Rattle.cove_model.specs.States.{State, find_tvm}
 use Rattle.cove_model.specs.Tvms.{Tvm as ModelTvm}
@@ -45,7 +44,7 @@ module _ (words : List ℕ) (G H : Ground) (hart pc arg : ℕ) where
       passed_call hart (Finalize t pc arg) words G H [] told
       (λ S met stands.
       let passed = told S stands in
-      let first = first_passes (Live S t) (IsBuilding S t ∷ HasSomeCpu S t ∷ PlaceAligned pc ∷ []) passed.0 (sym passed.1) in
-      let both = both_live words G S t (live_at G.tvms t) (find_tvm S t) (stands.tvm t) first.0 in
+      let all = each_passes (rule S hart (Finalize t pc arg)).checks passed.0 (sym passed.1) in
+      let both = both_live words G S t (live_at G.tvms t) (find_tvm S t) (stands.tvm t) all.0 in
       finished t S both.0 both.1 stands both.2 both.3 finishes)
       (λ S. refl) tt (λ at past. refl)

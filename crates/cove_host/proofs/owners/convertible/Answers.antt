@@ -1,6 +1,6 @@
-use Rattle.std.proofs.Common.{[], ◌∙◌, sym}
+use Rattle.std.proofs.Common.{[], ◌∷◌, ◌∙◌, sym}
 use Rattle.cove_base.specs.declared.calls.HostCall.TheVariants.{Convert}
-use Rattle.cove_host.proofs.CheckedLemmas.{first_passes, front_passes, stops}
+use Rattle.cove_host.proofs.CheckedLemmas.{each_passes, front_passes, stops}
 use Rattle.cove_model.specs.Checks.{AllHost}
 use Rattle.cove_model.specs.HostCalls.{rule}
 use Rattle.cove_host.proofs.owners.convertible.Goals as goal
@@ -27,7 +27,7 @@ returns-in_err-all_host-clause-told g c = λ hart S stands.
 pub returns-clause-told : goal.returns-clause-told
 returns-clause-told g c = λ hart S stands.
     let told = c.in_ok-all_host.ensures.told S stands in
-    let hosts = first_passes (AllHost S c.args.base c.args.n) [] c.in_ok-all_host.field-0 (sym told) in
+    let hosts = each_passes (AllHost S c.args.base c.args.n ∷ []) c.in_ok-all_host.field-0 (sym told) in
     rw c.all_host.ensures.unchanged.words at c.none_shared.ensures.told S stands hosts.0
     ∙ sym (front_passes 4 (rule S hart (Convert c.args.base c.args.n)).checks
     (c.in_ok-counted.ensures.told, (c.in_ok-aligned.ensures, (c.in_ok-inside.ensures.told _ S stands, (told, tt)))))
