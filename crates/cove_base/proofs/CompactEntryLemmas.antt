@@ -8,31 +8,31 @@ use Rattle.cove_base.specs.declared.numbers.HartId.{HartId}
 use Rattle.cove_base.specs.declared.events.Event.{Event}
 use Rattle.cove_base.specs.declared.compact.CompactEntry.{CompactEntry}
 use Rattle.cove_base.specs.declared.compact.CompactEvent.{CompactEvent}
-use Rattle.cove_base.specs.CompactEntries.{event_of, entry_of, quotes_of, is_among}
+use Rattle.cove_base.specs.CompactEntries.{event_of, entry_of, quotes_of, quote_is_among}
 use Rattle.cove_base.proofs.ScriptLimits.{all_weaker}
 
 -- what is among some quotes is shown so with more quotes after them
-shown_same : (quotes more : List (List ℕ)) (event : CompactEvent) → is_among (length quotes) event ≡ true → event_of (quotes ++ more) event ≡ event_of quotes event
+shown_same : (quotes more : List (List ℕ)) (event : CompactEvent) → quote_is_among (length quotes) event ≡ true → event_of (quotes ++ more) event ≡ event_of quotes event
 shown_same quotes more (CompactEvent.Evidence place) among =
     ap Event.Evidence (get_or_append_left quotes more [] place (ltb-true place (length quotes) among))
 shown_same quotes more _ among = refl
 
 -- what is among some quotes is among more
-among_more : (n m : ℕ) (event : CompactEvent) → n ≤ m → is_among n event ≡ true → is_among m event ≡ true
+among_more : (n m : ℕ) (event : CompactEvent) → n ≤ m → quote_is_among n event ≡ true → quote_is_among m event ≡ true
 among_more n m (CompactEvent.Evidence place) more among = lt-ltb place m (omega (arith, ltb-true place n among))
 among_more n m _ more among = refl
 
 -- entries whose quotes are among some are shown so with more quotes after them
-entries_same : (quotes more : List (List ℕ)) (entries : List CompactEntry) → list_all (λ entry. is_among (length quotes) entry.event) entries ≡ true
+entries_same : (quotes more : List (List ℕ)) (entries : List CompactEntry) → list_all (λ entry. quote_is_among (length quotes) entry.event) entries ≡ true
     → map (entry_of (quotes ++ more)) entries ≡ map (entry_of quotes) entries
 entries_same quotes more [] all = refl
 entries_same quotes more (entry ∷ entries) all =
-    let both = and_parts (is_among (length quotes) entry.event) (list_all (λ entry. is_among (length quotes) entry.event) entries) all in
+    let both = and_parts (quote_is_among (length quotes) entry.event) (list_all (λ entry. quote_is_among (length quotes) entry.event) entries) all in
     rw (shown_same quotes more entry.event both.0, entries_same quotes more entries both.1) refl
 
 -- what a history shows once an entry is appended
 pub shown_appended : (quotes more after : List (List ℕ)) (entries : List CompactEntry) (hart : HartId) (event : Event) (kept : CompactEvent)
-    → list_all (λ entry. is_among (length quotes) entry.event) entries ≡ true
+    → list_all (λ entry. quote_is_among (length quotes) entry.event) entries ≡ true
     → after ≡ quotes ++ more → event_of after kept ≡ event
     → map (entry_of after) (entries ++ (record { hart = hart; event = kept }) ∷ []) ≡ map (entry_of quotes) entries ++ (record { hart = hart; event = event }) ∷ []
 shown_appended quotes more after entries hart event kept all grown shows =
@@ -42,12 +42,12 @@ shown_appended quotes more after entries hart event kept all grown shows =
 
 -- the quotes of the entries are there once an entry is appended
 pub among_appended : (quotes more after : List (List ℕ)) (entries : List CompactEntry) (last : CompactEntry)
-    → list_all (λ entry. is_among (length quotes) entry.event) entries ≡ true
-    → after ≡ quotes ++ more → is_among (length after) last.event ≡ true
-    → list_all (λ entry. is_among (length after) entry.event) (entries ++ last ∷ []) ≡ true
+    → list_all (λ entry. quote_is_among (length quotes) entry.event) entries ≡ true
+    → after ≡ quotes ++ more → quote_is_among (length after) last.event ≡ true
+    → list_all (λ entry. quote_is_among (length after) entry.event) (entries ++ last ∷ []) ≡ true
 among_appended quotes more after entries last all grown among =
     let longer : length quotes ≤ length after = omega (arith, ap length grown, length-append quotes more) in
-    list_all-append (λ entry. is_among (length after) entry.event) entries (last ∷ [])
+    list_all-append (λ entry. quote_is_among (length after) entry.event) entries (last ∷ [])
     ∙ and_from _ _ (all_weaker _ _ (λ entry. among_more (length quotes) (length after) entry.event longer) entries all) (and_from _ _ among refl)
 
 -- an event has one quote at most

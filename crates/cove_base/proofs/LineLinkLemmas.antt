@@ -7,7 +7,7 @@ use Rattle.std.proofs.lemmas.Option.{get_or_from_slice_get, slice_get-map, slice
 use Rattle.cove_base.specs.declared.scripts.ScriptLine.{ScriptLine}
 use Rattle.cove_base.specs.HartPlaces.{is_line_of}
 use Rattle.cove_base.proofs.ScriptLimits.{if_some}
-use Rattle.cove_base.specs.LineLinks.{harts_of, IsLink, IsEnd, IsLinked, linked}
+use Rattle.cove_base.specs.LineLinks.{harts_of, IsLineLink, IsEnd, IsLinked, linked}
 
 -- a 0 appended to a list of numbers reads as no number does
 append-zero : (xs : List ℕ) (i : ℕ) → get_or (xs ++ 0 ∷ []) i 0 ≡ get_or xs i 0
@@ -52,7 +52,7 @@ module _ (harts : List ℕ) (hart : ℕ) where
       own.last place past within is
 
   link_before : (end place link : ℕ) → IsEnd harts hart end → place < length harts → place + 1 ≢ end
-      → IsLink harts place link → IsLink (harts ++ hart ∷ []) place link
+      → IsLineLink harts place link → IsLineLink (harts ++ hart ∷ []) place link
   link_before end place link own within other was = record {
     later = was.later;
     within = λ p. omega (arith, longer, was.within p);
@@ -69,7 +69,7 @@ module _ (harts : List ℕ) (hart : ℕ) where
         ];
   }
 
-  link_own : (end place link : ℕ) → IsEnd harts hart end → place + 1 ≡ end → link ≡ length harts → IsLink (harts ++ hart ∷ []) place link
+  link_own : (end place link : ℕ) → IsEnd harts hart end → place + 1 ≡ end → link ≡ length harts → IsLineLink (harts ++ hart ∷ []) place link
   link_own end place link own is here =
       let within : place < length harts = omega (arith, own.within) in
       let mine = before place within ∙ own.own place (sym is) in
@@ -81,7 +81,7 @@ module _ (harts : List ℕ) (hart : ℕ) where
         none = λ z i low high e. absurd (omega arith);
       }
 
-  link_last : (place link : ℕ) → place ≡ length harts → link ≡ 0 → IsLink (harts ++ hart ∷ []) place link
+  link_last : (place link : ℕ) → place ≡ length harts → link ≡ 0 → IsLineLink (harts ++ hart ∷ []) place link
   link_last place link here none = record {
     later = λ p. absurd (omega arith);
     within = λ p. absurd (omega arith);
@@ -130,7 +130,7 @@ linked_push harts links ends hart was small = record {
     link : (place : ℕ) → place < length (harts ++ hart ∷ [])
         → (place ≡ length harts) ⊎ (place ≡ length harts → ⊥)
         → (place + 1 ≡ get_or ends hart 0) ⊎ (place + 1 ≡ get_or ends hart 0 → ⊥)
-        → IsLink (harts ++ hart ∷ []) place (get_or (linked (links ++ 0 ∷ []) (get_or ends hart 0) (length harts)) place 0)
+        → IsLineLink (harts ++ hart ∷ []) place (get_or (linked (links ++ 0 ∷ []) (get_or ends hart 0) (length harts)) place 0)
     link place within (inl is) (inl mine) = absurd (omega (arith, own.within))
     link place within (inl is) (inr other) =
         link_last harts hart place _ is
@@ -198,13 +198,13 @@ hart_at lines place line is =
 -- the link that is read at a place with a line
 pub link_of : (inside lines : List ScriptLine) (links ends : List ℕ) (place link : ℕ)
     → IsLinked (harts_of inside) links ends → inside ≡ lines → place < length lines → link ≡ get_or links place link
-    → IsLink (harts_of lines) place link
+    → IsLineLink (harts_of lines) place link
 link_of inside lines links ends place link holds is within read =
     let same : IsLinked (harts_of lines) links ends = subst (λ l. IsLinked (harts_of l) links ends) is holds in
     let all = length-map lines (λ (l : ScriptLine). l.hart.0) in
     let line : place < length (harts_of lines) = omega arith in
     let slot : place < length links = omega (arith, same.lengths) in
-    subst (λ l. IsLink (harts_of lines) place l) (sym (read ∙ get_or_default_zero links place link slot)) (same.each place line)
+    subst (λ l. IsLineLink (harts_of lines) place l) (sym (read ∙ get_or_default_zero links place link slot)) (same.each place line)
 
 -- where no line between two places is of the hart of the first, the same lines of that hart are left after both
 pub rest_after : (lines : List ScriptLine) (place to : ℕ) → place < to

@@ -40,23 +40,23 @@ quotes_of (Event.Evidence quote) = quote ∷ []
 quotes_of (Event.Exit exit) = []
 
 -- the place of an event's quote, if it has one, is below this number of quotes
-abbrev pub is_among : ℕ → CompactEvent → Bool
-is_among quotes (CompactEvent.Call call reply) = true
-is_among quotes (CompactEvent.Load addr how value) = true
-is_among quotes (CompactEvent.LoadFault addr) = true
-is_among quotes (CompactEvent.Store addr value how) = true
-is_among quotes (CompactEvent.StoreFault addr value) = true
-is_among quotes (CompactEvent.Fetch how) = true
-is_among quotes CompactEvent.Exec = true
-is_among quotes (CompactEvent.Access how) = true
-is_among quotes (CompactEvent.Guest act reply) = true
-is_among quotes (CompactEvent.Evidence place) = nat_lt place quotes
-is_among quotes (CompactEvent.Exit exit) = true
+abbrev pub quote_is_among : ℕ → CompactEvent → Bool
+quote_is_among quotes (CompactEvent.Call call reply) = true
+quote_is_among quotes (CompactEvent.Load addr how value) = true
+quote_is_among quotes (CompactEvent.LoadFault addr) = true
+quote_is_among quotes (CompactEvent.Store addr value how) = true
+quote_is_among quotes (CompactEvent.StoreFault addr value) = true
+quote_is_among quotes (CompactEvent.Fetch how) = true
+quote_is_among quotes CompactEvent.Exec = true
+quote_is_among quotes (CompactEvent.Access how) = true
+quote_is_among quotes (CompactEvent.Guest act reply) = true
+quote_is_among quotes (CompactEvent.Evidence place) = nat_lt place quotes
+quote_is_among quotes (CompactEvent.Exit exit) = true
 
 -- how a history keeps its entries: the quote of each is among the quotes, there are no more quotes than entries and no
 -- more entries than a history may have, and the capacities are for as many
 pub record IsCompact (entries : List CompactEntry) (quotes : List (List ℕ)) (entry_capacity quote_capacity : ℕ) : Type 0 where
-  pub among : list_all (λ entry. is_among (length quotes) entry.event) entries ≡ true
+  pub among : list_all (λ entry. quote_is_among (length quotes) entry.event) entries ≡ true
   pub few_quotes : length quotes ≤ length entries
   pub few_entries : length entries ≤ ENTRY_LIMIT
   pub entry_room : ENTRY_LIMIT ≤ entry_capacity

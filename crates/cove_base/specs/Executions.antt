@@ -16,12 +16,12 @@ plus a b = (a + b) % 2 ^ 64
 abbrev pub minus : (a b : ℕ) → ℕ
 minus a b = (a + (2 ^ 64 - b)) % 2 ^ 64
 
-abbrev pub left : (a k : ℕ) → ℕ
-left a k = a * 2 ^ k % 2 ^ 64
+abbrev pub shifted_left : (a k : ℕ) → ℕ
+shifted_left a k = a * 2 ^ k % 2 ^ 64
 
 -- a shift to the right that copies the sign
-abbrev pub right_signed : (a k : ℕ) → ℕ
-right_signed a k = cast_unsigned w64 (int_shr (cast_signed w64 a) k)
+abbrev pub shifted_right_signed : (a k : ℕ) → ℕ
+shifted_right_signed a k = cast_unsigned w64 (int_shr (cast_signed w64 a) k)
 
 -- a signed number as a word
 abbrev pub as_word : ℤ → ℕ
@@ -90,28 +90,28 @@ plan x pc (Sltiu rd rs1 imm) = goes_on pc rd (flag (nat_lt (register x rs1) (as_
 plan x pc (Xori rd rs1 imm) = goes_on pc rd (bit_xor (register x rs1) (as_word imm))
 plan x pc (Ori rd rs1 imm) = goes_on pc rd (bit_or (register x rs1) (as_word imm))
 plan x pc (Andi rd rs1 imm) = goes_on pc rd (bit_and (register x rs1) (as_word imm))
-plan x pc (Slli rd rs1 imm) = goes_on pc rd (left (register x rs1) (as_word imm))
+plan x pc (Slli rd rs1 imm) = goes_on pc rd (shifted_left (register x rs1) (as_word imm))
 plan x pc (Srli rd rs1 imm) = goes_on pc rd (register x rs1 / 2 ^ as_word imm)
-plan x pc (Srai rd rs1 imm) = goes_on pc rd (right_signed (register x rs1) (as_word imm))
+plan x pc (Srai rd rs1 imm) = goes_on pc rd (shifted_right_signed (register x rs1) (as_word imm))
 plan x pc (Addiw rd rs1 imm) = goes_on pc rd (sign_extended 32 (plus (register x rs1) (as_word imm)))
-plan x pc (Slliw rd rs1 imm) = goes_on pc rd (sign_extended 32 (left (register x rs1) (as_word imm)))
+plan x pc (Slliw rd rs1 imm) = goes_on pc rd (sign_extended 32 (shifted_left (register x rs1) (as_word imm)))
 plan x pc (Srliw rd rs1 imm) = goes_on pc rd (sign_extended 32 (register x rs1 % 2 ^ 32 / 2 ^ as_word imm))
-plan x pc (Sraiw rd rs1 imm) = goes_on pc rd (right_signed (sign_extended 32 (register x rs1)) (as_word imm))
+plan x pc (Sraiw rd rs1 imm) = goes_on pc rd (shifted_right_signed (sign_extended 32 (register x rs1)) (as_word imm))
 plan x pc (Add rd rs1 rs2) = goes_on pc rd (plus (register x rs1) (register x rs2))
 plan x pc (Sub rd rs1 rs2) = goes_on pc rd (minus (register x rs1) (register x rs2))
-plan x pc (Sll rd rs1 rs2) = goes_on pc rd (left (register x rs1) (register x rs2 % 2 ^ 6))
+plan x pc (Sll rd rs1 rs2) = goes_on pc rd (shifted_left (register x rs1) (register x rs2 % 2 ^ 6))
 plan x pc (Slt rd rs1 rs2) = goes_on pc rd (flag (is_less_signed (register x rs1) (register x rs2)))
 plan x pc (Sltu rd rs1 rs2) = goes_on pc rd (flag (nat_lt (register x rs1) (register x rs2)))
 plan x pc (Xor rd rs1 rs2) = goes_on pc rd (bit_xor (register x rs1) (register x rs2))
 plan x pc (Srl rd rs1 rs2) = goes_on pc rd (register x rs1 / 2 ^ (register x rs2 % 2 ^ 6))
-plan x pc (Sra rd rs1 rs2) = goes_on pc rd (right_signed (register x rs1) (register x rs2 % 2 ^ 6))
+plan x pc (Sra rd rs1 rs2) = goes_on pc rd (shifted_right_signed (register x rs1) (register x rs2 % 2 ^ 6))
 plan x pc (Or rd rs1 rs2) = goes_on pc rd (bit_or (register x rs1) (register x rs2))
 plan x pc (And rd rs1 rs2) = goes_on pc rd (bit_and (register x rs1) (register x rs2))
 plan x pc (Addw rd rs1 rs2) = goes_on pc rd (sign_extended 32 (plus (register x rs1) (register x rs2)))
 plan x pc (Subw rd rs1 rs2) = goes_on pc rd (sign_extended 32 (minus (register x rs1) (register x rs2)))
-plan x pc (Sllw rd rs1 rs2) = goes_on pc rd (sign_extended 32 (left (register x rs1) (register x rs2 % 2 ^ 5)))
+plan x pc (Sllw rd rs1 rs2) = goes_on pc rd (sign_extended 32 (shifted_left (register x rs1) (register x rs2 % 2 ^ 5)))
 plan x pc (Srlw rd rs1 rs2) = goes_on pc rd (sign_extended 32 (register x rs1 % 2 ^ 32 / 2 ^ (register x rs2 % 2 ^ 5)))
-plan x pc (Sraw rd rs1 rs2) = goes_on pc rd (right_signed (sign_extended 32 (register x rs1)) (register x rs2 % 2 ^ 5))
+plan x pc (Sraw rd rs1 rs2) = goes_on pc rd (shifted_right_signed (sign_extended 32 (register x rs1)) (register x rs2 % 2 ^ 5))
 plan x pc Fence = goes_on pc 0 0
 plan x pc Ecall = plans.Ecall
 plan x pc Ebreak = plans.Trap 3
@@ -145,11 +145,11 @@ abbrev pub IsSize : ℕ → Type 0
 IsSize size = IsTrue (size == 1 || size == 2 || size == 4 || size == 8)
 
 -- a plan that can be carried out: a register that is there, an address that is a multiple of the size
-abbrev pub IsUsable : Plan → Type 0
-IsUsable (plans.Done rd value pc) = rd < 32
-IsUsable (plans.Load addr size signed rd) = (rd < 32) × IsSize size × (addr % size ≡ 0)
-IsUsable (plans.Store addr size value) = IsSize size × (addr % size ≡ 0)
-IsUsable (plans.Csr csr mode source writes rd) = (rd < 32) × (csr < 2 ^ 12)
-IsUsable plans.Ecall = Unit {0}
-IsUsable (plans.Trap cause) = Unit {0}
-IsUsable plans.Wfi = Unit {0}
+abbrev pub IsUsablePlan : Plan → Type 0
+IsUsablePlan (plans.Done rd value pc) = rd < 32
+IsUsablePlan (plans.Load addr size signed rd) = (rd < 32) × IsSize size × (addr % size ≡ 0)
+IsUsablePlan (plans.Store addr size value) = IsSize size × (addr % size ≡ 0)
+IsUsablePlan (plans.Csr csr mode source writes rd) = (rd < 32) × (csr < 2 ^ 12)
+IsUsablePlan plans.Ecall = Unit {0}
+IsUsablePlan (plans.Trap cause) = Unit {0}
+IsUsablePlan plans.Wfi = Unit {0}

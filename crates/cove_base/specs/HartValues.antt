@@ -9,7 +9,7 @@ use Rattle.cove_base.specs.declared.scripts.Line.TheVariants.{Call, Load, Store}
 use Rattle.cove_base.specs.declared.walks.Noted.{Noted}
 use Rattle.cove_base.specs.declared.walks.Target.{Target}
 use Rattle.cove_base.specs.declared.walks.Target.TheVariants.{Host, Fetch, Access}
-use Rattle.cove_base.specs.Rings.{filled, found}
+use Rattle.cove_base.specs.Rings.{ring_with, found}
 
 -- the rings of a hart's TLB: host pages, and guest pages for fetches and for data, each page under the key that finds it
 pub record HartRings : Type 0 where
@@ -86,9 +86,9 @@ rings_find rings (Access g) = found g.0 rings.accesses
 
 -- the rings after a page came in for a target
 abbrev pub rings_with : HartRings → Target → Page → HartRings
-rings_with rings (Host p) page = record rings { hosts = filled rings.hosts p.0 page }
-rings_with rings (Fetch g) page = record rings { fetches = filled rings.fetches g.0 page }
-rings_with rings (Access g) page = record rings { accesses = filled rings.accesses g.0 page }
+rings_with rings (Host p) page = record rings { hosts = ring_with rings.hosts p.0 page }
+rings_with rings (Fetch g) page = record rings { fetches = ring_with rings.fetches g.0 page }
+rings_with rings (Access g) page = record rings { accesses = ring_with rings.accesses g.0 page }
 
 -- the rings after a walk to a target
 abbrev pub rings_after : HartRings → Target → Walked → HartRings

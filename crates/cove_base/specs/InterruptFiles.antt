@@ -28,8 +28,8 @@ unfoldable pub least : (ℕ → Bool) → ℕ
 least test = unwrap_or (find test identities) 0
 
 -- an identity is in a set
-abbrev pub has : List ℕ → (id : ℕ) → Bool
-has set id = list_any (λ other. other == id) set
+abbrev pub has_id : List ℕ → (id : ℕ) → Bool
+has_id set id = list_any (λ other. other == id) set
 
 -- the set whose identities are the bits of a mask; bit 0 is no identity
 abbrev pub set_of_mask : ℕ → List ℕ
@@ -45,12 +45,12 @@ empty_file = record { pending = []; enabled = []; threshold = 0; delivery = fals
 
 -- a file in which one more identity is pending
 abbrev pub raised : InterruptFile → (id : ℕ) → InterruptFile
-raised file id = record file { pending = those (λ other. (other == id) || has file.pending other) }
+raised file id = record file { pending = those (λ other. (other == id) || has_id file.pending other) }
 
 -- an identity is pending and enabled, and the threshold, where there is one, is above it
 abbrev pub is_signalled : InterruptFile → (id : ℕ) → Bool
 is_signalled file id =
-    has file.pending id && has file.enabled id && ((file.threshold == 0) || nat_lt id file.threshold)
+    has_id file.pending id && has_id file.enabled id && ((file.threshold == 0) || nat_lt id file.threshold)
 
 -- the signalled identity of the highest priority, and 0 where there is none
 abbrev pub top : InterruptFile → ℕ
@@ -62,7 +62,7 @@ topei file = 65536 * top file + top file
 
 -- a file after its top identity was claimed, which is pending no more
 abbrev pub claimed : InterruptFile → InterruptFile
-claimed file = record file { pending = those (λ other. has file.pending other && not (other == top file)) }
+claimed file = record file { pending = those (λ other. has_id file.pending other && not (other == top file)) }
 
 -- a register of a file: what is read of it, and the file after a value was written to it
 pub record FileRegister : Type 0 where

@@ -7,7 +7,7 @@ abbrev pub harts_of : List ScriptLine → List ℕ
 harts_of lines = map (λ line. line.hart.0) lines
 
 -- the link of the line at a place: the place of the next line of its hart, or 0 where there is none
-pub record IsLink (harts : List ℕ) (place link : ℕ) : Type 0 where
+pub record IsLineLink (harts : List ℕ) (place link : ℕ) : Type 0 where
   pub later : 0 < link → place < link
   pub within : 0 < link → link < length harts
   pub same : 0 < link → get_or harts link 0 ≡ get_or harts place 0
@@ -24,7 +24,7 @@ pub record IsEnd (harts : List ℕ) (hart end : ℕ) : Type 0 where
 pub record IsLinked (harts links ends : List ℕ) : Type 0 where
   pub lengths : length links ≡ length harts
   pub all : length ends ≡ 256
-  pub each : (place : ℕ) → place < length harts → IsLink harts place (get_or links place 0)
+  pub each : (place : ℕ) → place < length harts → IsLineLink harts place (get_or links place 0)
   pub kept : (hart : ℕ) → hart < 256 → IsEnd harts hart (get_or ends hart 0)
 
 -- the links once the line before an end is linked to a place

@@ -16,5 +16,5 @@ abbrev pub found : (key : ℕ) → List (ℕ × Page) → Option Page
 found key pairs = option_map (λ pair. pair.1) (find (λ pair. pair.0 == key) pairs)
 
 -- a ring after a page came in as the newest: a full ring gave up its oldest
-abbrev pub filled : List (ℕ × Page) → (key : ℕ) → Page → List (ℕ × Page)
-filled pairs key page = keep_last ring_room (pairs ++ (key, page) ∷ [])
+abbrev pub ring_with : List (ℕ × Page) → (key : ℕ) → Page → List (ℕ × Page)
+ring_with pairs key page = keep_last ring_room (pairs ++ (key, page) ∷ [])

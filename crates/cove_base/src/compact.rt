@@ -2,7 +2,7 @@
 
 ghost use Rattle.std.specs.Prelude.{◌≡◌, ◌<◌, ◌++◌, length, IsTrue};
 ghost use Rattle.std.specs.Vec.{vec_capacity};
-ghost use Rattle.cove_base.specs.CompactEntries.{event_of, is_among, quotes_of};
+ghost use Rattle.cove_base.specs.CompactEntries.{event_of, quote_is_among, quotes_of};
 
 use crate::calls::{GuestAct, HostCall};
 use crate::events::{Event, Exit, How};
@@ -38,7 +38,7 @@ pub(crate) fn compact(quotes: &mut Vec<Quote>, event: Event) -> CompactEvent
     requires { length quotes.old.items < vec_capacity quotes.old }
     ensures quotes { quotes.new.items ≡ quotes.old.items ++ quotes_of event }
     ensures event { event_of quotes.new.items result ≡ event }
-    ensures among { IsTrue (is_among (length quotes.new.items) result) }
+    ensures among { IsTrue (quote_is_among (length quotes.new.items) result) }
     ensures room { vec_capacity quotes.new ≡ vec_capacity quotes.old }
 {
     match event {
@@ -62,7 +62,7 @@ pub(crate) fn compact(quotes: &mut Vec<Quote>, event: Event) -> CompactEvent
 
 /// Puts an event together, with a copy of its quote.
 pub(crate) fn whole(quotes: &[Quote], event: &CompactEvent) -> Event
-    requires { IsTrue (is_among (length quotes.now) event.now) }
+    requires { IsTrue (quote_is_among (length quotes.now) event.now) }
     ensures { result ≡ event_of quotes.now event.now }
 {
     match *event {

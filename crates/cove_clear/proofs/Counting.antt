@@ -15,7 +15,7 @@ use Rattle.cove_model.proofs.Members.{false-true, has_not, has_with}
 use Rattle.cove_model.proofs.OwnedStores.{page_stored, stands_in}
 use Rattle.cove_model.proofs.SharedLeaves.{stores_count_shared}
 use Rattle.cove_model.proofs.SlotStores.{below_named, entries_stay, next_cases}
-use Rattle.cove_model.specs.LawfulStores.{AreOwned, Counts, IsBehind, IsLawful, IsRoot, LeafNames}
+use Rattle.cove_model.specs.LawfulStores.{AreOwned, Counts, IsBehindLeaf, IsLawful, IsRoot, LeafNames}
 use Rattle.cove_model.specs.Orderly.{AreDistinct}
 use Rattle.cove_model.specs.Owners.{has, without}
 use Rattle.cove_model.specs.TableLaw.{is_shared_leaf, shared_leaves}
@@ -153,7 +153,7 @@ module _ (pages harts : ℕ) (words : List ℕ) (t root : ℕ) (is_open : IsOpen
   }
 
   behind_again : (u r : ℕ) → AreOwned pages words u r → (g : ℕ) (shared : Bool) → g < 2 ^ 29 → Names q shared (leaf_at pages r words g)
-      → IsBehind words u q shared → IsBehind now u q shared
+      → IsBehindLeaf words u q shared → IsBehindLeaf now u q shared
   behind_again u r owned g false low named behind = absurd (given_host u before Data (sym behind ∙ was))
   behind_again u r owned g true low named behind =
       (after, (leaf_shares u r g true owned low named).1, get_or-set_same words q (host after) 0 (let long = size in omega arith))

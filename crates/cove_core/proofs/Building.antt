@@ -7,14 +7,14 @@ use Rattle.cove_base.specs.Places.{all_words}
 use Rattle.cove_base.specs.Scripts.{ScriptValue}
 use Rattle.cove_base.specs.declared.events.Entry.{Entry}
 use Rattle.cove_core.proofs.Opening.{opening_fits, opening_kept, opening_progress}
-use Rattle.cove_core.specs.Plays.{IsFresh, IsSeated}
+use Rattle.cove_core.specs.Plays.{IsFresh, HartFits}
 use Rattle.cove_core.specs.Seats.{AreNew, AtFirstLines, IsNew}
 use Rattle.cove_hart.specs.declared.states.HartState.{HartState}
 use Rattle.cove_tvm.specs.GroundLaws.{IsNewGround}
 use Rattle.cove_tvm.specs.declared.ground.Ground.{Ground}
 
 -- a new hart is seated at the empty history
-new_seated : (script : ScriptValue) (history : List Entry) (k : ℕ) (hart : HartState) → history ≡ [] → k < script.harts → IsNew script k hart → IsSeated script history k hart
+new_seated : (script : ScriptValue) (history : List Entry) (k : ℕ) (hart : HartState) → history ≡ [] → k < script.harts → IsNew script k hart → HartFits script history k hart
 new_seated script history k hart unplayed below new = record {
   is = ap (λ (held : HartValue). held.hart) new.fresh;
   fits = rw (unplayed, new.fresh) (opening_fits script k hart.place below new.place);

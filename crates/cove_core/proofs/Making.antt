@@ -18,7 +18,7 @@ use Rattle.cove_base.specs.declared.scripts.ScriptLine.{ScriptLine}
 use Rattle.cove_core.specs.Kept.{IsKept}
 use Rattle.cove_core.specs.Made.{IsMade, IsPerformed, IsTold}
 use Rattle.cove_core.specs.Reached.{CanDo, IsDone, IsPrepared, IsReachable, load_event, store_event as stored_event}
-use Rattle.cove_core.specs.Stepped.{IsBehind}
+use Rattle.cove_core.specs.Stepped.{IsFirstBehind}
 use Rattle.cove_core.specs.declared.monitors.Mon.{Mon}
 use Rattle.cove_core.proofs.BoardLemmas.{at_script, board_by, kept_page_words, kept_ready, kept_stand, met_after}
 use Rattle.cove_core.proofs.CallLemmas.{stays_within}
@@ -207,7 +207,7 @@ has_next script H held fits prepared none =
     none-some prepared.line (sym none ∙ line_at_place script held.hart held.ended held.place fits.stands ∙ prepared.next)
 
 -- what is behind the hart's next line, is behind the line at its place
-pub behind_at : (script : ScriptValue) (H : List Entry) (held : HartValue) (l : ScriptLine) (other : ℕ) → next_line script held.hart held.ended ≡ Some l → IsBehind script H held other → first_behind script (after script H) l.phase ≡ Some other
+pub behind_at : (script : ScriptValue) (H : List Entry) (held : HartValue) (l : ScriptLine) (other : ℕ) → next_line script held.hart held.ended ≡ Some l → IsFirstBehind script H held other → first_behind script (after script H) l.phase ≡ Some other
 behind_at script H held l other next behind =
     ap (λ (k : ScriptLine). first_behind script (after script H) k.phase) (same_Some l behind.line (sym next ∙ behind.next)) ∙ behind.first
 

@@ -38,11 +38,11 @@ use Rattle.cove_model.specs.Fits.{Fits, IsSought, UnusedFits, WalkFits, page_for
 use Rattle.cove_model.specs.Histories.{Legal, after}
 use Rattle.cove_model.specs.Owners.{has, is_host, may_use, page_at}
 use Rattle.cove_model.specs.States.{State, ended_by}
-use Rattle.cove_model.specs.Translations.{Came, Failed, Tlb, Way, filled, holds_target, tlb, with_touched}
+use Rattle.cove_model.specs.Translations.{Came, Failed, Tlb, Arrival, filled, holds_target, tlb, with_touched}
 use Rattle.cove_model.specs.WordLaws.{Stand}
 
 -- by which way an access came to what was reached, and whether it may come to that
-abbrev pub way_of : Reach → Way
+abbrev pub way_of : Reach → Arrival
 way_of reach.Held = Came Hit
 way_of reach.Walked = Came Walk
 way_of reach.Fresh = Came Walk

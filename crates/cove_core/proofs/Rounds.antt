@@ -6,7 +6,7 @@ use Rattle.std.proofs.lemmas.List.{length-set}
 use Rattle.cove_base.specs.Scripts.{ScriptValue}
 use Rattle.cove_base.specs.declared.limits.TheConstants.{ENTRY_LIMIT}
 use Rattle.cove_core.specs.Kept.{IsKept}
-use Rattle.cove_core.specs.Plays.{AreReady, AreRounds, Changes, GoesOn, IsAt, IsSeated, IsTurn, IsTurned, Stays, named_play, note_of}
+use Rattle.cove_core.specs.Plays.{AreReady, AreRounds, Changes, GoesOn, IsAt, HartFits, IsTurn, IsTurned, Stays, named_play, note_of}
 use Rattle.cove_core.specs.declared.monitors.Mon.{Mon}
 use Rattle.cove_hart.specs.HartStates.{hart_value}
 use Rattle.cove_hart.specs.declared.states.HartState.{HartState}
@@ -33,24 +33,24 @@ get_set_other (y ∷ ys) (suc k) (suc j) x ne = get_set_other ys k j x (λ e. ne
 -- ---- a turn of one hart among all
 
 module _ (script : ScriptValue) (words now : List ℕ) (old new : Mon) (harts : List HartState) (k : ℕ) (held left : HartState) (changed : Bool) (ready : AreReady script words old harts) (below : k < script.harts) (at : slice_get harts k ≡ Some held) (turned : IsTurned script old.history new.history (hart_value held) (hart_value left) changed) where
-  seat : IsSeated script old.history k held
-  seat = subst (λ o. IfSome o (IsSeated script old.history k)) at (ready.seated k below)
+  seat : HartFits script old.history k held
+  seat = subst (λ o. IfSome o (HartFits script old.history k)) at (ready.seated k below)
 
-  others_seated : (j : ℕ) → (j ≡ k → ⊥) → (o : Option HartState) → IfSome o (IsSeated script old.history j) → IfSome o (IsSeated script new.history j)
+  others_seated : (j : ℕ) → (j ≡ k → ⊥) → (o : Option HartState) → IfSome o (HartFits script old.history j) → IfSome o (HartFits script new.history j)
   others_seated j ne None is = is
   others_seated j ne (Some hart) is = record {
     is = is.is;
     fits = turned.others (hart_value hart) (λ e. ne (sym is.is ∙ e ∙ seat.is)) is.fits;
   }
 
-  seated_now : (j : ℕ) → j < script.harts → (j ≡ k) ⊎ (j ≡ k → ⊥) → IfSome (slice_get (set harts k left) j) (IsSeated script new.history j)
+  seated_now : (j : ℕ) → j < script.harts → (j ≡ k) ⊎ (j ≡ k → ⊥) → IfSome (slice_get (set harts k left) j) (HartFits script new.history j)
   seated_now j lt (inl e) =
       let size = ready.count in
-      subst (λ i. IfSome (slice_get (set harts k left) i) (IsSeated script new.history i)) (sym e)
-      (subst (λ o. IfSome o (IsSeated script new.history k)) (sym (get_set_same harts k left (omega arith)))
+      subst (λ i. IfSome (slice_get (set harts k left) i) (HartFits script new.history i)) (sym e)
+      (subst (λ o. IfSome o (HartFits script new.history k)) (sym (get_set_same harts k left (omega arith)))
       (record { is = turned.same_hart ∙ seat.is; fits = turned.fits }))
   seated_now j lt (inr ne) =
-      subst (λ o. IfSome o (IsSeated script new.history j)) (sym (get_set_other harts k j left ne))
+      subst (λ o. IfSome o (HartFits script new.history j)) (sym (get_set_other harts k j left ne))
       (others_seated j ne (slice_get harts j) (ready.seated j lt))
 
   pub ready_now : IsKept script now new → AreReady script now new (set harts k left)

@@ -54,21 +54,21 @@ use Rattle.cove_model.specs.Owners.{has, is_host, page_at}
 use Rattle.cove_model.specs.Played.{Found, Missing, Note, Play, Unwalked, ended_event, ending, entered, entry_by, entry_turn, noted, sought_turn, turn, walked, walks_first}
 use Rattle.cove_model.specs.States.{State, ended_by, page_of, word_at}
 use Rattle.cove_model.specs.Steps.{Allows, Takes}
-use Rattle.cove_model.specs.Translations.{Came, Failed, Way, host_touched, tlb, touched}
+use Rattle.cove_model.specs.Translations.{Came, Failed, Arrival, host_touched, tlb, touched}
 use Rattle.cove_model.specs.WordLaws.{Stand}
 
 -- how an access ended, by its way
-abbrev how_of : Way → Option How
+abbrev how_of : Arrival → Option How
 how_of (Came how) = Some how
 how_of Failed = None
 
 -- what is told of an access by the words and the rings
-abbrev IsToldHow : (words : List ℕ) → HartRings → (host : Bool) (p : ℕ) → Way → Type 0
+abbrev IsToldHow : (words : List ℕ) → HartRings → (host : Bool) (p : ℕ) → Arrival → Type 0
 IsToldHow words rings host p (Came how) = IsWithinReach words rings p
 IsToldHow words rings host p Failed = (found p rings.hosts ≡ None) × (host ≡ false)
 
 -- a play whose hart holds its target or has this note makes no walk first, and the access ends in this way
-abbrev EndsSo : (holds : Bool) → Note → (host : Bool) → Way → Type 0
+abbrev EndsSo : (holds : Bool) → Note → (host : Bool) → Arrival → Type 0
 EndsSo holds note host way = (walks_first holds note ≡ false) × (ending holds note host ≡ how_of way)
 
 -- ---- how an access ends
@@ -84,18 +84,18 @@ module _ (script : ScriptValue) (limits : Limits script) (H : List Entry) (legal
   told_host word = (words_tell_host script.pages script.harts words (after script H) p below stand.stands.owners).1 word
 
   -- by a note and whether the target is held, in both parts
-  ends_by : (b : Bool) (note : Note) (way : Way) → holds ≡ b → EndsSo b note host way → EndsSo holds note host way
+  ends_by : (b : Bool) (note : Note) (way : Arrival) → holds ≡ b → EndsSo b note host way → EndsSo holds note host way
   ends_by b note way is ends = (ap (λ c. walks_first c note) is ∙ ends.0, ap (λ c. ending c note host) is ∙ ends.1)
 
-  unwalked_ends : held.walked ≡ None → (way : Way) → Reaches script H held.hart (host_at p) way → EndsSo holds Unwalked host way
+  unwalked_ends : held.walked ≡ None → (way : Arrival) → Reaches script H held.hart (host_at p) way → EndsSo holds Unwalked host way
   unwalked_ends none way right = by_way way right (reached_rightly script limits H legal words stand held fits l next p asks below ready held.rings reach.Held (none, refl)).right
     where
-      by_way : (way' : Way) → Reaches script H held.hart (host_at p) way' → holds ≡ true → EndsSo holds Unwalked host way'
+      by_way : (way' : Arrival) → Reaches script H held.hart (host_at p) way' → holds ≡ true → EndsSo holds Unwalked host way'
       by_way (Came Hit) right' named = ends_by true Unwalked (Came Hit) named (refl, refl)
       by_way (Came Walk) right' named = absurd (false≢true (sym right'.0 ∙ named))
       by_way Failed right' named = absurd (false≢true (sym right' ∙ named))
 
-  found_ends : HasWalked held.walked true → (way : Way) → Reaches script H held.hart (host_at p) way → IsToldHow words held.rings host p way → EndsSo holds Found host way
+  found_ends : HasWalked held.walked true → (way : Arrival) → Reaches script H held.hart (host_at p) way → IsToldHow words held.rings host p way → EndsSo holds Found host way
   found_ends has_walked way right told = by_way way right told (walk_is script limits H legal words stand held fits l next p asks true has_walked).absent
     where
       no_fault : found p held.rings.hosts ≡ None → host ≡ false → ⊥
@@ -104,12 +104,12 @@ module _ (script : ScriptValue) (limits : Limits script) (H : List Entry) (legal
         | inr word ↦ false≢true (sym off ∙ told_host word)
       ]
 
-      by_way : (way' : Way) → Reaches script H held.hart (host_at p) way' → IsToldHow words held.rings host p way' → holds ≡ false → EndsSo holds Found host way'
+      by_way : (way' : Arrival) → Reaches script H held.hart (host_at p) way' → IsToldHow words held.rings host p way' → holds ≡ false → EndsSo holds Found host way'
       by_way (Came Hit) right' told' lacks = absurd (false≢true (sym lacks ∙ right'))
       by_way (Came Walk) right' told' lacks = ends_by false Found (Came Walk) lacks (refl, refl)
       by_way Failed right' told' lacks = absurd (no_fault told'.0 told'.1)
 
-  missing_ends : HasWalked held.walked false → (way : Way) → Reaches script H held.hart (host_at p) way → IsToldHow words held.rings host p way → EndsSo holds Missing host way
+  missing_ends : HasWalked held.walked false → (way : Arrival) → Reaches script H held.hart (host_at p) way → IsToldHow words held.rings host p way → EndsSo holds Missing host way
   missing_ends has_walked way right told = by_way way right told (walk_is script limits H legal words stand held fits l next p asks false has_walked).absent
     where
       is_the_hosts : IsWithinReach words held.rings p → host ≡ true
@@ -118,13 +118,13 @@ module _ (script : ScriptValue) (limits : Limits script) (H : List Entry) (legal
         | inr word ↦ told_host word
       ]
 
-      by_way : (way' : Way) → Reaches script H held.hart (host_at p) way' → IsToldHow words held.rings host p way' → holds ≡ false → EndsSo holds Missing host way'
+      by_way : (way' : Arrival) → Reaches script H held.hart (host_at p) way' → IsToldHow words held.rings host p way' → holds ≡ false → EndsSo holds Missing host way'
       by_way (Came Hit) right' told' lacks = absurd (false≢true (sym lacks ∙ right'))
       by_way (Came Walk) right' told' lacks = ends_by false Missing (Came Walk) lacks (refl, ap (ending false Missing) (is_the_hosts told'))
       by_way Failed right' told' lacks = ends_by false Missing Failed lacks (refl, ap (ending false Missing) told'.1)
 
   -- an access of a play ends in the way of the hart's
-  pub ends_so : (way : Way) → Reaches script H held.hart (host_at p) way → IsToldHow words held.rings host p way → EndsSo holds (note_of held.walked) host way
+  pub ends_so : (way : Arrival) → Reaches script H held.hart (host_at p) way → IsToldHow words held.rings host p way → EndsSo holds (note_of held.walked) host way
   ends_so way right told = go held.walked refl
     where
       by_finding : (finding : Bool) → HasWalked held.walked finding → EndsSo holds (cond finding Found Missing) host way
@@ -148,7 +148,7 @@ module _ (script : ScriptValue) (within : IsTrue (is_within_limits script)) (H :
   abbrev S : State
   S = after script H
 
-  access_ends : (addr : ℕ) → accessed_page prepared.line.line ≡ Some (page_of addr) → (way : Way) → Reaches script H held.hart (host_target addr) way → IsToldHow words held.rings (is_host (page_at S.pages (page_of addr))) (page_of addr) way
+  access_ends : (addr : ℕ) → accessed_page prepared.line.line ≡ Some (page_of addr) → (way : Arrival) → Reaches script H held.hart (host_target addr) way → IsToldHow words held.rings (is_host (page_at S.pages (page_of addr))) (page_of addr) way
       → EndsSo (has (page_of addr) (tlb script H held.hart).pages) (notes held.hart) (is_host (page_at S.pages (page_of addr))) way
   access_ends addr asks way right told =
       let l = prepared.line in
@@ -159,7 +159,7 @@ module _ (script : ScriptValue) (within : IsTrue (is_within_limits script)) (H :
       (ends_so script (limits_of script within) H legal words stand held fits l prepared.next (page_of addr) asks below ready way right told)
 
   -- the turn of an access that ends in this way
-  access_turn : (addr : ℕ) (success : How → Event) (fault : Event) (way : Way) → EndsSo (has (page_of addr) (tlb script H held.hart).pages) (notes held.hart) (is_host (page_at S.pages (page_of addr))) way
+  access_turn : (addr : ℕ) (success : How → Event) (fault : Event) (way : Arrival) → EndsSo (has (page_of addr) (tlb script H held.hart).pages) (notes held.hart) (is_host (page_at S.pages (page_of addr))) way
       → sought_turn script play S held.hart (Touch (host_target addr) success fault) (Some (host_target addr)) ≡ entered play held.hart (ended_event success fault (how_of way))
   access_turn addr success fault way ends =
       cond-false (walks_first (has (page_of addr) (tlb script H held.hart).pages) (notes held.hart)) (walked play held.hart (is_host (page_at S.pages (page_of addr)))) (entry_turn script play S held.hart (Touch (host_target addr) success fault)) ends.0

@@ -10,7 +10,7 @@ use Rattle.cove_base.specs.declared.walks.Target.TheVariants.{Host}
 use Rattle.cove_core.specs.Kept.{IsKept}
 use Rattle.cove_core.specs.Made.{IsMade}
 use Rattle.cove_core.specs.declared.monitors.Mon.{Mon}
-use Rattle.cove_model.specs.BoardRule.{AreBounded, IsLive, IsMonitored, Names}
+use Rattle.cove_model.specs.BoardRule.{AreBounded, IsLive, IsMonitored, HoldingNames}
 use Rattle.cove_hart.specs.Needs.{next_need}
 use Rattle.cove_hart.specs.declared.needs.Need.TheVariants.{Walk}
 use Rattle.cove_model.specs.Fits.{Fits}
@@ -42,7 +42,7 @@ abbrev pub KeptHartsUse : Type 0
 KeptHartsUse =
     (script : ScriptValue) (words : List ℕ) (mon : Mon) (held : HartValue) (p : ℕ)
     → IsTrue (is_within_limits script) → IsKept script words mon
-    → Fits script mon.history held → Names (holding held) p → (p < script.pages) × MayUse script.pages words held.hart p
+    → Fits script mon.history held → HoldingNames (holding held) p → (p < script.pages) × MayUse script.pages words held.hart p
 
 -- An entry of a hart leaves the part of every other hart, also of one that made its walk meanwhile.
 abbrev pub StepsKeepLive : Type 0

@@ -36,7 +36,7 @@ pub record IsTurned (script : ScriptValue) (old new : List Entry) (held left : H
   pub moved : changed ≡ true → (play : Play) → play.history ≡ old → play.notes held.hart ≡ note_of held.walked → turn ENTRY_LIMIT script play held.hart ≢ play
 
 -- a hart of this number fits the history
-pub record IsSeated (script : ScriptValue) (history : List Entry) (number : ℕ) (hart : HartState) : Type 0 where
+pub record HartFits (script : ScriptValue) (history : List Entry) (number : ℕ) (hart : HartState) : Type 0 where
   pub is : hart.hart.0 ≡ number
   pub fits : Fits script history (hart_value hart)
 
@@ -44,7 +44,7 @@ pub record IsSeated (script : ScriptValue) (history : List Entry) (number : ℕ)
 pub record AreReady (script : ScriptValue) (words : List ℕ) (mon : Mon) (harts : List HartState) : Type 0 where
   pub kept : IsKept script words mon
   pub count : length harts ≡ script.harts
-  pub seated : (k : ℕ) → k < script.harts → IfSome (slice_get harts k) (IsSeated script mon.history k)
+  pub seated : (k : ℕ) → k < script.harts → IfSome (slice_get harts k) (HartFits script mon.history k)
 
 -- a play has the history, and the notes of the harts
 pub record IsAt (mon : Mon) (harts : List HartState) (play : Play) : Type 0 where

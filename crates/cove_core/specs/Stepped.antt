@@ -36,13 +36,13 @@ IsLimit (Ahead hart) = ⊥
 IsLimit Limit = Unit {0}
 
 -- a fact where no entry was made
-abbrev pub IsStill : Stepped → Type 0 → Type 0
-IsStill (Did place) P = Unit {0}
-IsStill (Ahead hart) P = P
-IsStill Limit P = P
+abbrev pub IfNoEntry : Stepped → Type 0 → Type 0
+IfNoEntry (Did place) P = Unit {0}
+IfNoEntry (Ahead hart) P = P
+IfNoEntry Limit P = P
 
 -- this is the least hart with a line of an earlier phase than the hart's next line left
-pub record IsBehind (script : ScriptValue) (history : List Entry) (held : HartValue) (other : ℕ) : Type 0 where
+pub record IsFirstBehind (script : ScriptValue) (history : List Entry) (held : HartValue) (other : ℕ) : Type 0 where
   pub line : ScriptLine
   pub next : next_line script held.hart held.ended ≡ Some line
   pub first : first_behind script (after script history) line.phase ≡ Some other

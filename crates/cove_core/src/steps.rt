@@ -8,7 +8,7 @@ ghost use Rattle.cove_base.specs.Unchanged.{Unchanged};
 ghost use Rattle.cove_core.specs.Kept.{IsKept};
 ghost use Rattle.cove_core.specs.Made.{IsMade, IsPerformed};
 ghost use Rattle.cove_core.specs.Reached.{IsPrepared};
-ghost use Rattle.cove_core.specs.Stepped.{IsAhead, IsBehind, IsFirst, IsLimit, IsStill, OnAhead, OnDid};
+ghost use Rattle.cove_core.specs.Stepped.{IsAhead, IsFirstBehind, IsFirst, IsLimit, IfNoEntry, OnAhead, OnDid};
 ghost use Rattle.cove_model.specs.LawfulCounts.{CountsEntries};
 ghost use Rattle.cove_model.specs.LawfulStores.{AllowsLawful};
 ghost use Rattle.cove_hart.specs.HartStates.{hart_value};
@@ -51,11 +51,11 @@ pub fn event_step<W: Words>(
     ensures clean { OnDid result (λ _. W.clean w.new ≡ true) }
     ensures used { OnDid result (λ _. hart.new.walked ≡ None) }
     ensures limit { IsLimit result ↔ (ENTRY_LIMIT ≤ length mon.old.history) }
-    ensures ahead { OnAhead result (λ other. IsBehind script.now mon.old.history (hart_value hart.old) other.0) }
+    ensures ahead { OnAhead result (λ other. IsFirstBehind script.now mon.old.history (hart_value hart.old) other.0) }
     ensures behind { (other : ℕ) → IsAhead result other
-        ↔ ((length mon.old.history < ENTRY_LIMIT) × IsBehind script.now mon.old.history (hart_value hart.old) other) }
+        ↔ ((length mon.old.history < ENTRY_LIMIT) × IsFirstBehind script.now mon.old.history (hart_value hart.old) other) }
     ensures due { OnDid result (λ _. IsFirst script.now mon.old.history (hart_value hart.old)) }
-    ensures still { IsStill result
+    ensures still { IfNoEntry result
         (Unchanged W.words W.clean W.guard w.old w.new × (mon.new ≡ mon.old) × (hart.new ≡ hart.old)) }
 {
     let place = mon.history.len();

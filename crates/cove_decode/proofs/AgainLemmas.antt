@@ -3,16 +3,16 @@ use Rattle.std.specs.Prelude.{IfSome}
 use Rattle.std.proofs.lemmas.Bool.{cond_both, eqb-true, and_parts}
 use Rattle.std.proofs.lemmas.Int.{ints}
 use Rattle.cove_base.specs.Instructions.{decoded, opcode, rd, funct3, rs1, rs2, funct7, funct6, csr, shamt, is_shift, imm_i, imm_s, imm_b, imm_u, imm_j, branch_of, load_insn, store_insn, immediate_of, shift_of, shift_of_32, operation_of, operation_of_32, csr_of, whole_word_of}
-use Rattle.cove_base.specs.Encodings.{encoded, bits_of, significant, Fits, IsImmediate, IsShift, r_format, i_format, s_format, b_format, u_format, j_format}
+use Rattle.cove_base.specs.Encodings.{encoded, bits_of, significant, FieldsFit, IsImmediate, IsShift, r_format, i_format, s_format, b_format, u_format, j_format}
 use Rattle.cove_base.specs.declared.instructions.Insn.{Insn}
 use Rattle.cove_base.specs.declared.instructions.Insn.TheVariants.{Lui, Auipc, Jal, Jalr, Addiw, Fence}
 use Rattle.cove_decode.proofs.FieldLemmas.{bits_of-signed, signed_fits, r_whole, i_whole, upper_whole, imm_b_is, imm_j_is, b_bits, j_bits, HasPieces, b_pieces, HasUpperPieces, j_pieces}
 
 -- what was read of a word fits its fields, and is that word again
 pub record IsRead (w : ℕ) (found : Option Insn) : Type 0 where
-  pub again : IfSome found (λ insn. Fits insn × (encoded insn ≡ significant w))
+  pub again : IfSome found (λ insn. FieldsFit insn × (encoded insn ≡ significant w))
 
-some : {w : ℕ} {insn : Insn} → Fits insn → encoded insn ≡ significant w → IsRead w (Some insn)
+some : {w : ℕ} {insn : Insn} → FieldsFit insn → encoded insn ≡ significant w → IsRead w (Some insn)
 some fits e = record { again = (fits, e) }
 
 nothing : {w : ℕ} → IsRead w None
@@ -265,7 +265,7 @@ decoded_read w below =
     else_if (λ e. csr_read w below (eqb-true _ _ e)) (λ _.
     nothing))))))))))))))))
 
-pub read_fits : (w : ℕ) (found : Option Insn) → IsRead w found → IfSome found Fits
+pub read_fits : (w : ℕ) (found : Option Insn) → IsRead w found → IfSome found FieldsFit
 read_fits w None read = tt
 read_fits w (Some insn) read = read.again.0
 

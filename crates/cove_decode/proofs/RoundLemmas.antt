@@ -2,7 +2,7 @@ use Rattle.std.proofs.Common.{◌≡◌, ℕ, ◌+◌, ◌*◌, ◌/◌, ◌%◌
 use Rattle.std.proofs.lemmas.Bool.{cond_both, eqb-true, and_parts}
 use Rattle.std.proofs.lemmas.Int.{ints}
 use Rattle.cove_base.specs.Instructions.{decoded, signed, opcode, funct3, is_shift, imm_i, imm_s, imm_b, imm_u, imm_j, branch_of, load_insn, store_insn, immediate_of, shift_of, shift_of_32, operation_of, operation_of_32, csr_of}
-use Rattle.cove_base.specs.Encodings.{encoded, bits_of, significant, Fits, IsImmediate, IsShift, r_format, i_format, s_format, b_format, u_format, j_format}
+use Rattle.cove_base.specs.Encodings.{encoded, bits_of, significant, FieldsFit, IsImmediate, IsShift, r_format, i_format, s_format, b_format, u_format, j_format}
 use Rattle.cove_base.specs.declared.instructions.Insn.{Insn}
 use Rattle.cove_base.specs.declared.instructions.Insn.TheVariants.{Lui, Auipc, Jal, Jalr, Beq, Bne, Blt, Bge, Bltu, Bgeu, Lb, Lh, Lw, Ld, Lbu, Lhu, Lwu, Sb, Sh, Sw, Sd, Addi, Slti, Sltiu, Xori, Ori, Andi, Slli, Srli, Srai, Addiw, Slliw, Srliw, Sraiw, Add, Sub, Sll, Slt, Sltu, Xor, Srl, Sra, Or, And, Addw, Subw, Sllw, Srlw, Sraw, Fence, Ecall, Ebreak, Wfi, Csrrw, Csrrs, Csrrc, Csrrwi, Csrrsi, Csrrci}
 use Rattle.cove_decode.proofs.FieldLemmas.{HasFields, HasBits, HasUpper, r_fields, i_fields, upper_fields, signed-bits_of, bits_of_below, imm_i_is, imm_s_is, imm_b_is, imm_u_is, imm_j_is, b_bits-pieces, j_bits-pieces}
@@ -175,7 +175,7 @@ jal_again d i hd fits =
     ∙ (ap (signed 21) (j_bits-pieces n (bits_of_below 21 1 i refl fits) fits.2) ∙ signed-bits_of 21 1 i refl fits))
 
 -- the word of an instruction is decoded to it
-pub decoded-encoded : (insn : Insn) → Fits insn → decoded (encoded insn) ≡ Some insn
+pub decoded-encoded : (insn : Insn) → FieldsFit insn → decoded (encoded insn) ≡ Some insn
 decoded-encoded (Lui d i) fits = lui_again d i fits.0 fits.1
 decoded-encoded (Auipc d i) fits = auipc_again d i fits.0 fits.1
 decoded-encoded (Jal d i) fits = jal_again d i fits.0 fits.1
@@ -244,5 +244,5 @@ decoded-significant w =
     (λ _. refl)
 
 -- the one instruction whose word it is
-pub decoded_is : (w : ℕ) (insn : Insn) → Fits insn → encoded insn ≡ significant w → decoded w ≡ Some insn
+pub decoded_is : (w : ℕ) (insn : Insn) → FieldsFit insn → encoded insn ≡ significant w → decoded w ≡ Some insn
 decoded_is w insn fits e = sym (decoded-significant w) ∙ (ap decoded (sym e) ∙ decoded-encoded insn fits)

@@ -1,5 +1,5 @@
 ghost use Rattle.std.specs.Prelude.{◌≡◌, IfSome};
-ghost use Rattle.cove_base.specs.Encodings.{encoded, significant, Fits};
+ghost use Rattle.cove_base.specs.Encodings.{encoded, significant, FieldsFit};
 ghost use Rattle.cove_base.specs.Instructions.{decoded, branch_of, load_insn, store_insn, immediate_of, shift_of, shift_of_32, operation_of, operation_of_32, csr_of, whole_word_of};
 ghost use Rattle.cove_base.specs.declared.instructions.Insn.{Insn};
 
@@ -9,11 +9,11 @@ use cove_base::Insn;
 /// The instruction of a word, or None where it is none of RV64I and Zicsr, nor WFI.
 pub fn decode(word: u32) -> Option<Insn>
     ensures table { result ≡ decoded word }
-    ensures fits { IfSome result Fits }
+    ensures fits { IfSome result FieldsFit }
 
     // An instruction that is encoded is the word again. A FENCE has fields that aren't looked at.
     ensures again { IfSome result (λ insn. encoded insn ≡ significant word) }
-    ensures found { (insn : Insn) → Fits insn → encoded insn ≡ significant word → result ≡ Some insn }
+    ensures found { (insn : Insn) → FieldsFit insn → encoded insn ≡ significant word → result ≡ Some insn }
 {
     instruction(word)
 }

@@ -1,27 +1,27 @@
 use Rattle.std.proofs.Common.{ℕ, ◌/◌, ◌*◌, ◌%◌, ◌<◌, ◌==◌, ℤ, Bool, true, false, not, List, refl, arith}
 use Rattle.std.proofs.lemmas.Bool.{cond_both, eqb-true}
-use Rattle.cove_base.specs.Encodings.{Fits}
+use Rattle.cove_base.specs.Encodings.{FieldsFit}
 use Rattle.std.specs.Prelude.{nat_lt}
 use Rattle.cove_base.specs.Registers.{register}
-use Rattle.cove_base.specs.Executions.{plan, plus, as_word, is_less_signed, jumps, branches, loads, stores, IsSize, IsUsable}
+use Rattle.cove_base.specs.Executions.{plan, plus, as_word, is_less_signed, jumps, branches, loads, stores, IsSize, IsUsablePlan}
 use Rattle.cove_base.specs.declared.instructions.Insn.{Insn}
 use Rattle.cove_base.specs.declared.instructions.Insn.TheVariants.{Lui, Auipc, Jal, Jalr, Beq, Bne, Blt, Bge, Bltu, Bgeu, Lb, Lh, Lw, Ld, Lbu, Lhu, Lwu, Sb, Sh, Sw, Sd, Addi, Slti, Sltiu, Xori, Ori, Andi, Slli, Srli, Srai, Addiw, Slliw, Srliw, Sraiw, Add, Sub, Sll, Slt, Sltu, Xor, Srl, Sra, Or, And, Addw, Subw, Sllw, Srlw, Sraw, Fence, Ecall, Ebreak, Wfi, Csrrw, Csrrs, Csrrc, Csrrwi, Csrrsi, Csrrci}
 
-usable_jumps : (pc rd target : ℕ) → rd < 32 → IsUsable (jumps pc rd target)
-usable_jumps pc rd target h = cond_both (target % 4 == 0) _ _ IsUsable (λ _. h) (λ _. tt)
+usable_jumps : (pc rd target : ℕ) → rd < 32 → IsUsablePlan (jumps pc rd target)
+usable_jumps pc rd target h = cond_both (target % 4 == 0) _ _ IsUsablePlan (λ _. h) (λ _. tt)
 
-usable_branches : (pc : ℕ) (test : Bool) (imm : ℤ) → IsUsable (branches pc test imm)
+usable_branches : (pc : ℕ) (test : Bool) (imm : ℤ) → IsUsablePlan (branches pc test imm)
 usable_branches pc false imm = omega arith
-usable_branches pc true imm = cond_both (plus pc (as_word imm) % 4 == 0) _ _ IsUsable (λ _. omega arith) (λ _. tt)
+usable_branches pc true imm = cond_both (plus pc (as_word imm) % 4 == 0) _ _ IsUsablePlan (λ _. omega arith) (λ _. tt)
 
-usable_loads : (addr size : ℕ) (signed : Bool) (rd : ℕ) → rd < 32 → IsSize size → IsUsable (loads addr size signed rd)
-usable_loads addr size signed rd h s = cond_both (addr % size == 0) _ _ IsUsable (λ e. (h, s, eqb-true _ _ e)) (λ _. tt)
+usable_loads : (addr size : ℕ) (signed : Bool) (rd : ℕ) → rd < 32 → IsSize size → IsUsablePlan (loads addr size signed rd)
+usable_loads addr size signed rd h s = cond_both (addr % size == 0) _ _ IsUsablePlan (λ e. (h, s, eqb-true _ _ e)) (λ _. tt)
 
-usable_stores : (addr size value : ℕ) → IsSize size → IsUsable (stores addr size value)
-usable_stores addr size value s = cond_both (addr % size == 0) _ _ IsUsable (λ e. (s, eqb-true _ _ e)) (λ _. tt)
+usable_stores : (addr size value : ℕ) → IsSize size → IsUsablePlan (stores addr size value)
+usable_stores addr size value s = cond_both (addr % size == 0) _ _ IsUsablePlan (λ e. (s, eqb-true _ _ e)) (λ _. tt)
 
 -- what is planned for an instruction that fits can be carried out
-pub usable : (x : List ℕ) (pc : ℕ) (insn : Insn) → Fits insn → IsUsable (plan x pc insn)
+pub usable : (x : List ℕ) (pc : ℕ) (insn : Insn) → FieldsFit insn → IsUsablePlan (plan x pc insn)
 usable x pc (Lui rd imm) fits = fits.0
 usable x pc (Auipc rd imm) fits = fits.0
 usable x pc (Jal rd imm) fits = usable_jumps pc rd (plus pc (as_word imm)) fits.0

@@ -1,5 +1,5 @@
 ghost use Rattle.std.specs.Prelude.{◌≡◌, ◌≤◌, ◌<◌, ◌%◌, ◌^◌};
-ghost use Rattle.cove_base.specs.Executions.{sign_extended, right_signed, is_less_signed};
+ghost use Rattle.cove_base.specs.Executions.{sign_extended, shifted_right_signed, is_less_signed};
 
 /// The low bits of a word, as many as `width`.
 pub fn low(a: u64, width: u32) -> u64
@@ -31,7 +31,7 @@ pub fn extended(a: u64, width: u32) -> u64
 /// A shift to the right that copies the sign.
 pub fn right_signed(a: u64, k: u32) -> u64
     requires { k < 64 }
-    ensures { result ≡ right_signed a k }
+    ensures { result ≡ shifted_right_signed a k }
 {
     (a.cast_signed() >> k).cast_unsigned()
 }

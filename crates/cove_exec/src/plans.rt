@@ -1,6 +1,6 @@
 ghost use Rattle.std.specs.Prelude.{◌≡◌, ◌<◌};
-ghost use Rattle.cove_base.specs.Encodings.{Fits};
-ghost use Rattle.cove_base.specs.Executions.{plan, plus, as_word, goes_on, jumps, branches, loads, stores, IsFinished, IsUsable};
+ghost use Rattle.cove_base.specs.Encodings.{FieldsFit};
+ghost use Rattle.cove_base.specs.Executions.{plan, plus, as_word, goes_on, jumps, branches, loads, stores, IsFinished, IsUsablePlan};
 ghost use Rattle.cove_base.specs.Registers.{registers, register};
 
 use crate::numbers::{extended, is_less_signed, low, right_signed};
@@ -90,15 +90,15 @@ fn sum(regs: &Regs, rs1: u8, imm: i64) -> u64
 
 /// What an instruction does, which needs that its numbers fit their fields, as those of `decode` do.
 pub fn plan_of(regs: &Regs, insn: Insn) -> Plan
-    requires { Fits insn }
+    requires { FieldsFit insn }
     ensures plan { result ≡ plan (registers regs.now) regs.now.pc insn }
-    ensures usable { IsUsable result }
+    ensures usable { IsUsablePlan result }
 {
     planned(regs, insn)
 }
 
 fn planned(regs: &Regs, insn: Insn) -> Plan
-    requires { Fits insn }
+    requires { FieldsFit insn }
     ensures { result ≡ plan (registers regs.now) regs.now.pc insn }
 {
     let pc = regs.pc;

@@ -18,7 +18,7 @@ use Rattle.cove_model.proofs.Lists.{all_at}
 use Rattle.cove_model.proofs.OwnedStores.{one_root}
 use Rattle.cove_model.proofs.StandLemmas.{host_page}
 use Rattle.cove_model.specs.Keyed.{at}
-use Rattle.cove_model.specs.LawfulStores.{AreOwned, IsBehind, IsLeft, IsRoot}
+use Rattle.cove_model.specs.LawfulStores.{AreOwned, IsBehindLeaf, IsLeft, IsRoot}
 use Rattle.cove_model.specs.Mappings.{mapping_of, page_under}
 use Rattle.cove_model.specs.Orderly.{AreDistinct, IsOrderly}
 use Rattle.cove_model.specs.Owners.{AsData, Converting, Free, Given, Host, Owner, Purpose, has, page_at}
@@ -111,7 +111,7 @@ module _ (words : List ℕ) (G : Ground) (S : MonitorState) (stands : Stands wor
     -- what is behind a leaf that names a page
     record Maps (g p : ℕ) (shared : Bool) : Type 0 where
       on : p < G.pages
-      behind : IsBehind words u p shared
+      behind : IsBehindLeaf words u p shared
       own : shared ≡ false → page_at S.pages p ≡ Given u (AsData g)
 
     board_link : (g : ℕ) → g < 2 ^ 29 → (page : ℕ) → entry_at G.pages root words (InMiddle (g / 512)) ≡ next_table page → page < G.pages
@@ -136,7 +136,7 @@ module _ (words : List ℕ) (G : Ground) (S : MonitorState) (stands : Stands wor
           let word = (subst (PageStands G.harts (epoch_in G.pages words) (answered_in G.pages words) (maps_of S p) (get_or words p 0)) backed.0 (page_is p on)).2 in
           record {
             on = on;
-            behind = subst (IsBehind words u p) (sym kind) word;
+            behind = subst (IsBehindLeaf words u p) (sym kind) word;
             own = λ e. backed.0;
           }
 
@@ -149,7 +149,7 @@ module _ (words : List ℕ) (G : Ground) (S : MonitorState) (stands : Stands wor
           let count = stands.counted p on in
           record {
             on = on;
-            behind = subst (IsBehind words u p) (sym kind) (maps_of S p, omega arith, word);
+            behind = subst (IsBehindLeaf words u p) (sym kind) (maps_of S p, omega arith, word);
             own = λ e. absurd (true≢false (sym kind ∙ e));
           }
 

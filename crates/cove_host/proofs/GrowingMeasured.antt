@@ -14,7 +14,7 @@ use Rattle.cove_host.specs.GuestRuns.{mapping_checks}
 use Rattle.cove_host.specs.MeasuredRuns.{MeasuresOf, frames_from}
 use Rattle.cove_model.proofs.Runs.{every_at}
 use Rattle.cove_model.specs.Checks.{AllFree, AllHost, Inside, IsBuilding, Live}
-use Rattle.cove_model.specs.HostCalls.{page_records, rule, words_from}
+use Rattle.cove_model.specs.HostCalls.{page_records, rule, page_words_from}
 use Rattle.cove_model.specs.Owners.{Free, Host, Owner, every, is_free, is_host, page_at, words_of}
 use Rattle.cove_model.specs.Refusals.{Aligned, Check, Count}
 use Rattle.cove_model.specs.States.{State}
@@ -95,10 +95,10 @@ module _ {words : List ℕ} {G : Ground} (ready : IsReady words G) (src dst n gp
   module _ (H : Ground) (frames : List (List ℕ)) (new : List ℕ) (filled : FillsFrames (dst / 4096) n (λ j. get_or G.memory (src / 4096 + j) []) G.memory frames) where
     -- the words that were measured are those of the host's pages
     same_words : (k : ℕ) (S : State) → Stands words G S → src / 4096 + n ≤ G.pages → every is_host (src / 4096) n S.pages ≡ true
-        → frames_from (dst / 4096) n frames ≡ words_from S src n
+        → frames_from (dst / 4096) n frames ≡ page_words_from S src n
     same_words k S stands inside hosts =
         let long = length-map-range_with_len (λ p. get_or frames p []) (dst / 4096) n in
-        ext_get_or [] (frames_from (dst / 4096) n frames) (words_from S src n)
+        ext_get_or [] (frames_from (dst / 4096) n frames) (page_words_from S src n)
         (long ∙ sym (length-map-range_with_len (λ p. words_of (page_at S.pages p)) (src / 4096) n))
         (λ j below.
         let low : j < n = omega (arith, below, long) in
@@ -113,7 +113,7 @@ module _ {words : List ℕ} {G : Ground} (ready : IsReady words G) (src dst n gp
         let done = measures_of old may.live in
         let records = done.1.extended model.records model.extensions (was may).fields.registers in
         let same = same_words k S may.stands inside hosts in
-        let measured : done.1.measured ≡ registers_of (model.records ++ page_records gpa (words_from S src n)) model.extensions =
+        let measured : done.1.measured ≡ registers_of (model.records ++ page_records gpa (page_words_from S src n)) model.extensions =
         records ∙ ap (λ a. registers_of (model.records ++ page_records a (frames_from (dst / 4096) n frames)) model.extensions) place
         ∙ ap (λ ws. registers_of (model.records ++ page_records gpa ws) model.extensions) same in
         stands_written G frames k done.2 done.1.rest

@@ -23,7 +23,7 @@ use Rattle.cove_model.specs.Refusals.{Aligned, Check}
 use Rattle.cove_model.specs.States.{State, find_tvm}
 use Rattle.cove_model.specs.Tvms.{Tvm as ModelTvm, new_tvm}
 use Rattle.cove_region.proofs.StandingLemmas.{added-stand, meets-stand, outside-free}
-use Rattle.cove_region.specs.GuestMaps.{AreAll, AreMade, GuestMap, covers, has, pages_from}
+use Rattle.cove_region.specs.GuestMaps.{AreAll, AreMade, GuestMap, covers, has_guest, pages_from}
 use Rattle.cove_region.specs.Standing.{StandFor, area_of}
 use Rattle.cove_region.specs.declared.kinds.AreaKind.TheVariants.{Outside, Private}
 use Rattle.cove_region.specs.declared.regions.RegionFault.{RegionFault}
@@ -128,7 +128,7 @@ module _ (words : List ℕ) (G H : Ground) (hart gpa len : ℕ) where
       → ((g : ℕ) → IsTrue (covers old.regions g) → g < 2 ^ 29) → (g : ℕ) → IsTrue (covers new.regions g) → g < 2 ^ 29
   near old new within begins lasts grown before g there =
       elim (or_cases (covers old.regions g) (covers (pages_from (gpa / 4096) (len / 4096) ∷ []) g)
-      (sym (ap (λ areas. covers areas g) grown ∙ list_any-append (has g) old.regions (pages_from (gpa / 4096) (len / 4096) ∷ [])) ∙ there)) [
+      (sym (ap (λ areas. covers areas g) grown ∙ list_any-append (has_guest g) old.regions (pages_from (gpa / 4096) (len / 4096) ∷ [])) ∙ there)) [
         | inl was ↦ before g was
         | inr now ↦ grind (arith, nat_tests)
       ]

@@ -6,7 +6,7 @@ use Rattle.std.proofs.lemmas.Bool.{le-ltb, lt-ltb}
 use Rattle.std.proofs.lemmas.Bool.Decides.{eqb_tells, leb_tells}
 use Rattle.std.proofs.lemmas.Nat.{and_le_l, mod_below, pow_below, or_lt}
 use Rattle.std.proofs.lemmas.Nat.Bits.{bit_at-lt, bit_at-zero, bit_at_lowest, bit_at_and, bit_at_set_same, bit_at_set_other, bit_at_clear_same, bit_at_clear_other, bit_at_ones, bit_at_ones_above, bit_at-trailing_zeros}
-use Rattle.cove_base.specs.InterruptFiles.{InterruptFile, has, is_signalled, set_of_mask, those, top}
+use Rattle.cove_base.specs.InterruptFiles.{InterruptFile, has_id, is_signalled, set_of_mask, those, top}
 use Rattle.cove_imsic.specs.Masks.{IsMask}
 use Rattle.cove_imsic.proofs.SetLemmas.{has-those, least-is, least-none, those-same}
 
@@ -19,7 +19,7 @@ abbrev pub without_bit : (mask id : ℕ) → ℕ
 without_bit mask id = bit_and mask (bit_not w64 (1 * 2 ^ id % 2 ^ 64))
 
 -- an identity is in a mask's set where its bit is set
-pub has-mask : (mask i : ℕ) → 1 ≤ i → i < 64 → has (set_of_mask mask) i ≡ (bit_at mask i == 1)
+pub has-mask : (mask i : ℕ) → 1 ≤ i → i < 64 → has_id (set_of_mask mask) i ≡ (bit_at mask i == 1)
 has-mask mask i above below = has-those (λ id. bit_at mask id == 1) i above below
 
 pub IsMask-with_bit : (mask id : ℕ) → 1 ≤ id → id ≤ 63 → IsMask mask → IsMask (with_bit mask id)
@@ -30,10 +30,10 @@ IsMask-with_bit mask id above below was = record {
 }
 
 pub set-with_bit : (mask id : ℕ) → 1 ≤ id → id ≤ 63
-    → set_of_mask (with_bit mask id) ≡ those (λ other. (other == id) || has (set_of_mask mask) other)
+    → set_of_mask (with_bit mask id) ≡ those (λ other. (other == id) || has_id (set_of_mask mask) other)
 set-with_bit mask id above below = those-same _ _ each
   where
-    each : (i : ℕ) → 1 ≤ i → i < 64 → (bit_at (with_bit mask id) i == 1) ≡ ((i == id) || has (set_of_mask mask) i)
+    each : (i : ℕ) → 1 ≤ i → i < 64 → (bit_at (with_bit mask id) i == 1) ≡ ((i == id) || has_id (set_of_mask mask) i)
     each i from to =
         elim (eqb_tells i id) [
           | inl same ↦
@@ -60,29 +60,29 @@ and_true true = refl
 and_true false = refl
 
 pub set-without_bit : (mask id : ℕ) → 1 ≤ id → id < 64
-    → set_of_mask (without_bit mask id) ≡ those (λ other. has (set_of_mask mask) other && not (other == id))
+    → set_of_mask (without_bit mask id) ≡ those (λ other. has_id (set_of_mask mask) other && not (other == id))
 set-without_bit mask id above below = those-same _ _ each
   where
-    each : (i : ℕ) → 1 ≤ i → i < 64 → (bit_at (without_bit mask id) i == 1) ≡ (has (set_of_mask mask) i && not (i == id))
+    each : (i : ℕ) → 1 ≤ i → i < 64 → (bit_at (without_bit mask id) i == 1) ≡ (has_id (set_of_mask mask) i && not (i == id))
     each i from to =
         elim (eqb_tells i id) [
           | inl same ↦
               let bit : bit_at (without_bit mask id) i ≡ 0 = ap (bit_at (without_bit mask id)) same.1 ∙ bit_at_clear_same w64 mask id (omega arith) in
-              rw (bit, same.0) (and_false (has (set_of_mask mask) i))
+              rw (bit, same.0) (and_false (has_id (set_of_mask mask) i))
           | inr other ↦
               let bit : bit_at (without_bit mask id) i ≡ bit_at mask i = bit_at_clear_other w64 mask id (omega arith) i (omega arith) other.1 in
-              rw (bit, other.0) (sym (has-mask mask i from to) ∙ and_true (has (set_of_mask mask) i))
+              rw (bit, other.0) (sym (has-mask mask i from to) ∙ and_true (has_id (set_of_mask mask) i))
         ]
 
 -- where nothing is signalled, no identity is claimed
-pub set-without_none : (mask : ℕ) → set_of_mask mask ≡ those (λ other. has (set_of_mask mask) other && not (other == 0))
+pub set-without_none : (mask : ℕ) → set_of_mask mask ≡ those (λ other. has_id (set_of_mask mask) other && not (other == 0))
 set-without_none mask = those-same _ _ each
   where
-    each : (i : ℕ) → 1 ≤ i → i < 64 → (bit_at mask i == 1) ≡ (has (set_of_mask mask) i && not (i == 0))
+    each : (i : ℕ) → 1 ≤ i → i < 64 → (bit_at mask i == 1) ≡ (has_id (set_of_mask mask) i && not (i == 0))
     each i from to =
         elim (eqb_tells i 0) [
           | inl same ↦ absurd (let zero' : i ≡ 0 = same.1 in omega arith)
-          | inr other ↦ rw other.0 (sym (has-mask mask i from to) ∙ and_true (has (set_of_mask mask) i))
+          | inr other ↦ rw other.0 (sym (has-mask mask i from to) ∙ and_true (has_id (set_of_mask mask) i))
         ]
 
 bit_cases : (a : ℕ) → a < 2 → (a ≡ 0) ⊎ (a ≡ 1)

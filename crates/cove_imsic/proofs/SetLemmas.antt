@@ -10,7 +10,7 @@ use Rattle.std.proofs.lemmas.Nat.{pow_pos}
 use Rattle.std.proofs.lemmas.Nat.Bits.{bit_at-lt}
 use Rattle.std.proofs.Math.Arith.{mod-mul}
 use Rattle.std.proofs.Math.Nat.{pow-suc, div-div-eq-div-mul, zero-mul}
-use Rattle.cove_base.specs.InterruptFiles.{has, identities, least, mask_of_set, set_of_mask, those}
+use Rattle.cove_base.specs.InterruptFiles.{has_id, identities, least, mask_of_set, set_of_mask, those}
 
 -- ---- numbers from a on that meet a test
 
@@ -23,25 +23,25 @@ filter-same p q a (suc n) same =
     filter-same p q (a + 1) n (λ i above below. same i (omega arith) (omega arith)) in
     rw (here, rest)
 
-pub has-filter_below : (p : ℕ → Bool) (i a n : ℕ) → i < a → has (filter p (range_with_len a n)) i ≡ false
+pub has-filter_below : (p : ℕ → Bool) (i a n : ℕ) → i < a → has_id (filter p (range_with_len a n)) i ≡ false
 has-filter_below p i a zero below = refl
 has-filter_below p i a (suc n) below =
-    let rest : has (filter p (range_with_len (a + 1) n)) i ≡ false = has-filter_below p i (a + 1) n (omega arith) in
+    let rest : has_id (filter p (range_with_len (a + 1) n)) i ≡ false = has-filter_below p i (a + 1) n (omega arith) in
     let other : eqb a i ≡ false = grind arith in
-    elim (p a) as (λ b. has (cond b (a ∷ filter p (range_with_len (a + 1) n)) (filter p (range_with_len (a + 1) n))) i ≡ false)
+    elim (p a) as (λ b. has_id (cond b (a ∷ filter p (range_with_len (a + 1) n)) (filter p (range_with_len (a + 1) n))) i ≡ false)
     [ true ↦ rw other rest | false ↦ rest ]
 
-pub has-filter : (p : ℕ → Bool) (i a n : ℕ) → a ≤ i → i < a + n → has (filter p (range_with_len a n)) i ≡ p i
+pub has-filter : (p : ℕ → Bool) (i a n : ℕ) → a ≤ i → i < a + n → has_id (filter p (range_with_len a n)) i ≡ p i
 has-filter p i a zero above below = absurd (omega arith)
 has-filter p i a (suc n) above below =
-    elim (eqb_tells a i) as (λ _. has (filter p (range_with_len a (suc n))) i ≡ p i) [
-      | inl same ↦ subst (λ j. has (filter p (range_with_len a (suc n))) j ≡ p j) same.1
-          (elim (p a) as (λ b. has (cond b (a ∷ filter p (range_with_len (a + 1) n)) (filter p (range_with_len (a + 1) n))) a ≡ b)
+    elim (eqb_tells a i) as (λ _. has_id (filter p (range_with_len a (suc n))) i ≡ p i) [
+      | inl same ↦ subst (λ j. has_id (filter p (range_with_len a (suc n))) j ≡ p j) same.1
+          (elim (p a) as (λ b. has_id (cond b (a ∷ filter p (range_with_len (a + 1) n)) (filter p (range_with_len (a + 1) n))) a ≡ b)
           [ true ↦ rw (eq-eqb a a refl) | false ↦ has-filter_below p a (a + 1) n (omega arith) ])
       | inr other ↦
           let differ : a ≢ i = other.1 in
-          let rest : has (filter p (range_with_len (a + 1) n)) i ≡ p i = has-filter p i (a + 1) n (omega arith) (omega arith) in
-          elim (p a) as (λ b. has (cond b (a ∷ filter p (range_with_len (a + 1) n)) (filter p (range_with_len (a + 1) n))) i ≡ p i)
+          let rest : has_id (filter p (range_with_len (a + 1) n)) i ≡ p i = has-filter p i (a + 1) n (omega arith) (omega arith) in
+          elim (p a) as (λ b. has_id (cond b (a ∷ filter p (range_with_len (a + 1) n)) (filter p (range_with_len (a + 1) n))) i ≡ p i)
           [ true ↦ rw other.0 rest | false ↦ rest ]
     ]
 
@@ -105,7 +105,7 @@ pub those-same : (p q : ℕ → Bool) → ((i : ℕ) → 1 ≤ i → i < 64 → 
 unfolding those identities
 those-same p q same = filter-same p q 1 63 same
 
-pub has-those : (p : ℕ → Bool) (i : ℕ) → 1 ≤ i → i < 64 → has (those p) i ≡ p i
+pub has-those : (p : ℕ → Bool) (i : ℕ) → 1 ≤ i → i < 64 → has_id (those p) i ≡ p i
 unfolding those identities
 has-those p i above below = has-filter p i 1 63 above below
 

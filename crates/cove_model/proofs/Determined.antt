@@ -10,18 +10,18 @@ use Rattle.cove_model.proofs.Aiming.{Shows, offer_shows}
 use Rattle.cove_model.specs.Offers.{Offer, Nothing, Behind, Single, Touch, offer}
 use Rattle.cove_model.specs.States.{State}
 use Rattle.cove_model.specs.Steps.{Allows, IsStep, Takes}
-use Rattle.cove_model.specs.Translations.{Came, Failed, Touched, Way, touched, touched_at}
+use Rattle.cove_model.specs.Translations.{Came, Failed, Touched, Arrival, touched, touched_at}
 
 pub one_state : (script : ScriptValue) (before one other : State) (entry : Entry) → IsStep script before entry one → IsStep script before entry other → one ≡ other
 one_state script before one other entry a b = a.1 ∙ sym b.1
 
 -- how what was looked for came
-abbrev way : Touched → Option Way
+abbrev way : Touched → Option Arrival
 way None = None
 way (Some (target, came)) = Some came
 
 -- a target with the way to it
-abbrev by_way : Target → Way → Touched
+abbrev by_way : Target → Arrival → Touched
 by_way t w = Some (t, w)
 
 came_same : (t : Target) (how other : How) → by_way t (Came how) ≡ by_way t (Came other) → how ≡ other

@@ -5,7 +5,7 @@ use Rattle.std.proofs.lemmas.List.{drop-map, length-map, map-append}
 use Rattle.cove_base.proofs.ScriptLimits.{Limits}
 use Rattle.cove_base.specs.HartPlaces.{IsNextPlace}
 use Rattle.cove_base.specs.HartValues.{HartRings, HartValue, Inside, after_walk, rings_after}
-use Rattle.cove_base.specs.Rings.{found, keep_last, ring_room, filled as ring_with}
+use Rattle.cove_base.specs.Rings.{found, keep_last, ring_room, ring_with}
 use Rattle.cove_base.specs.Scripts.{ScriptValue}
 use Rattle.cove_base.specs.declared.events.Entry.{Entry}
 use Rattle.cove_base.specs.declared.events.Walked.{Walked}

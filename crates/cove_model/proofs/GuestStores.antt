@@ -17,7 +17,7 @@ use Rattle.cove_model.proofs.LeafWords.{blocked_next, blocked_none, blocked_same
 use Rattle.cove_model.proofs.OwnedStores.{IsOwnPlace, elsewhere_stored, leaves_apart, one_owner, one_root, owned_again, owned_store, root_word, stands_in}
 use Rattle.cove_model.proofs.SlotStores.{EntryMoves, below_named, entries_stay, entry_moves, next_cases}
 use Rattle.cove_model.proofs.StoreLawProofs.{lawful_within, stores_keep_fences}
-use Rattle.cove_model.specs.LawfulStores.{AreOwned, HasEntered, IsBehind, IsInside, IsLawful, Counts, Converts, Frees, Gives, TakesBack, Removes, ChangesTable, Answers, Begins, FencesTvm, Enters, Leaves, IsLeft, IsRoot, IsTableOf, TableChange, Links, Maps, Blocks, Unblocks, Unmaps, Rewrites}
+use Rattle.cove_model.specs.LawfulStores.{AreOwned, HasEntered, IsBehindLeaf, IsInside, IsLawful, Counts, Converts, Frees, Gives, TakesBack, Removes, ChangesTable, Answers, Begins, FencesTvm, Enters, Leaves, IsLeft, IsRoot, IsTableOf, TableChange, Links, Maps, Blocks, Unblocks, Unmaps, Rewrites}
 use Rattle.cove_model.specs.TableLaw.{CountsKeepGuests, EntersWithin, IsGuestLive, IsWayBy, ListsKeepGuests, MayReach, StoresKeepEntered, StoresKeepGuests, StoresKeepOwned, StoresKeepPresent, ZerosKeepOwned}
 use Rattle.cove_model.specs.WordsStand.{FencesWithin, number_in}
 
@@ -414,7 +414,7 @@ module _ (pages harts : ℕ) (words : List ℕ) (page i tvm root : ℕ) (size : 
   stays : (p : ℕ) → p < pages → get_or after_zero p 0 ≡ get_or words p 0
   stays p p-low = get_or-set_other words (table_word pages page i) p 0 0 (omega arith)
 
-  behind : (q : ℕ) (shared : Bool) → q < pages → IsBehind words tvm q shared → IsBehind after_zero tvm q shared
+  behind : (q : ℕ) (shared : Bool) → q < pages → IsBehindLeaf words tvm q shared → IsBehindLeaf after_zero tvm q shared
   behind q false q-low was = stays q q-low ∙ was
   behind q true q-low was = (was.0, was.1, stays q q-low ∙ was.2)
 

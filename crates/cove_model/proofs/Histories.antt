@@ -25,7 +25,7 @@ use Rattle.cove_model.proofs.KeyedLemmas.{at_key}
 use Rattle.cove_model.proofs.KeepingCalls.{keeps_done}
 use Rattle.cove_model.proofs.Lists.{all_any, all_at}
 use Rattle.cove_model.specs.Mappings.{is_own, mapping_of, page_under}
-use Rattle.cove_model.specs.Sound.{IsBacked, IsSound, IsSoundMapping, IsSoundPage, IsSoundTvm, IsUsable, Leads}
+use Rattle.cove_model.specs.Sound.{IsBacked, IsSound, IsSoundMapping, IsSoundPage, IsSoundTvm, IsUsable, LeadsTo}
 use Rattle.cove_model.specs.Tvms.{Backing, OwnPage, HostPage, Mapping, Tvm, new_tvm}
 use Rattle.cove_model.specs.States.{State, ended_by, find_tvm, harts_inside, opening}
 use Rattle.cove_model.specs.Steps.{Allows, Takes, after_event, done}
@@ -134,7 +134,7 @@ module _ (script : ScriptValue) (limits : Limits script) where
   -- ---- quiet
 
   -- a pair that leads has the page of its backing, whose holder its TVM or the host is
-  leads_holder : (S : State) (h : ℕ) (own : Bool) (g p : ℕ) → IsSound S → (leads : Leads S h own g p) → holder (page_at S.pages p) ≡ owner_of own leads.seat.tvm
+  leads_holder : (S : State) (h : ℕ) (own : Bool) (g p : ℕ) → IsSound S → (leads : LeadsTo S h own g p) → holder (page_at S.pages p) ≡ owner_of own leads.seat.tvm
   leads_holder S h own g p sound leads = found (find_tvm S leads.seat.tvm) refl leads.found
     where
       backed : (t : ℕ) (b : Backing) → IsBacked S.pages t leads.mapping.guest b → holder (page_at S.pages (page_under b)) ≡ owner_of (is_own b) t
@@ -169,7 +169,7 @@ module _ (script : ScriptValue) (limits : Limits script) where
 
   -- a pair of a hart leads on over an entry
   pair_stays : (H : List Entry) (e : Entry) → Legal script (H ++ e ∷ []) → (h : ℕ)
-      → ((own : Bool) (g p : ℕ) (leads : Leads (after script H) h own g p) → LeadsOn (after script H) (after_event (after script H) e.hart.0 e.event) h own g p leads)
+      → ((own : Bool) (g p : ℕ) (leads : LeadsTo (after script H) h own g p) → LeadsOn (after script H) (after_event (after script H) e.hart.0 e.event) h own g p leads)
       ⊎ (((tlb script (H ++ e ∷ []) h).fetches ≡ []) × ((tlb script (H ++ e ∷ []) h).accesses ≡ []))
   pair_stays H e legal h =
       let S = after script H in
@@ -177,7 +177,7 @@ module _ (script : ScriptValue) (limits : Limits script) where
       let here = legal_last script H e legal in
       ⊎_elim
       (λ same.
-      let P : ℕ → Type 0 = λ k. ((own : Bool) (g p : ℕ) (leads : Leads S k own g p) → LeadsOn S (after_event S e.hart.0 e.event) k own g p leads)
+      let P : ℕ → Type 0 = λ k. ((own : Bool) (g p : ℕ) (leads : LeadsTo S k own g p) → LeadsOn S (after_event S e.hart.0 e.event) k own g p leads)
       ⊎ (((tlb script (H ++ e ∷ []) k).fetches ≡ []) × ((tlb script (H ++ e ∷ []) k).accesses ≡ [])) in
       subst P same (⊎_elim inl
       (λ none. inr (ap (λ (t : Tlb). t.fetches) (tlb_same script H e e.hart.0 refl) ∙ none.0, ap (λ (t : Tlb). t.accesses) (tlb_same script H e e.hart.0 refl) ∙ none.1))
@@ -189,7 +189,7 @@ module _ (script : ScriptValue) (limits : Limits script) where
       (cases_eq e.hart.0 h)
 
   -- the page of a pair stays whose it was
-  holder_stays : (H : List Entry) (e : Entry) → Legal script (H ++ e ∷ []) → (h : ℕ) (own : Bool) (g p : ℕ) (leads : Leads (after script H) h own g p)
+  holder_stays : (H : List Entry) (e : Entry) → Legal script (H ++ e ∷ []) → (h : ℕ) (own : Bool) (g p : ℕ) (leads : LeadsTo (after script H) h own g p)
       → LeadsOn (after script H) (after_event (after script H) e.hart.0 e.event) h own g p leads
       → holder (page_at (after script (H ++ e ∷ [])).pages p) ≡ holder (page_at (after script H).pages p)
   holder_stays H e legal h own g p leads on =
@@ -212,7 +212,7 @@ module _ (script : ScriptValue) (limits : Limits script) where
       → holder (page_at (after script (H ++ e ∷ [])).pages p) ≡ holder (page_at (after script H).pages p)
   fetch_named H e legal h p named = ⊎_elim
       (λ on.
-      let f = all_any (λ (pair : ℕ × ℕ). Leads (after script H) h true pair.0 pair.1) (λ (pair : ℕ × ℕ). eqb pair.1 p) (tlb script (H ++ e ∷ []) h).fetches named (used_before H e legal h).fetches in
+      let f = all_any (λ (pair : ℕ × ℕ). LeadsTo (after script H) h true pair.0 pair.1) (λ (pair : ℕ × ℕ). eqb pair.1 p) (tlb script (H ++ e ∷ []) h).fetches named (used_before H e legal h).fetches in
       let P : ℕ → Type 0 = λ q. holder (page_at (after script (H ++ e ∷ [])).pages q) ≡ holder (page_at (after script H).pages q) in
       subst P (eqb-true f.0.1 p f.2) (holder_stays H e legal h true f.0.0 f.0.1 f.1 (on true f.0.0 f.0.1 f.1)))
       (λ none. false-true (sym (ap (list_any (λ (pair : ℕ × ℕ). eqb pair.1 p)) none.0) ∙ named))
@@ -222,7 +222,7 @@ module _ (script : ScriptValue) (limits : Limits script) where
       → holder (page_at (after script (H ++ e ∷ [])).pages p) ≡ holder (page_at (after script H).pages p)
   access_named H e legal h p named = ⊎_elim
       (λ on.
-      let f = all_any (λ (pair : ℕ × ℕ). (own : Bool) × Leads (after script H) h own pair.0 pair.1) (λ (pair : ℕ × ℕ). eqb pair.1 p) (tlb script (H ++ e ∷ []) h).accesses named (used_before H e legal h).accesses in
+      let f = all_any (λ (pair : ℕ × ℕ). (own : Bool) × LeadsTo (after script H) h own pair.0 pair.1) (λ (pair : ℕ × ℕ). eqb pair.1 p) (tlb script (H ++ e ∷ []) h).accesses named (used_before H e legal h).accesses in
       let P : ℕ → Type 0 = λ q. holder (page_at (after script (H ++ e ∷ [])).pages q) ≡ holder (page_at (after script H).pages q) in
       subst P (eqb-true f.0.1 p f.2) (holder_stays H e legal h f.1.0 f.0.0 f.0.1 f.1.1 (on f.1.0 f.0.0 f.0.1 f.1.1)))
       (λ none. false-true (sym (ap (list_any (λ (pair : ℕ × ℕ). eqb pair.1 p)) none.1) ∙ named))

@@ -19,7 +19,7 @@ use Rattle.cove_model.specs.Cached.{WasFound}
 use Rattle.cove_model.specs.Histories.{after, own}
 use Rattle.cove_model.specs.Mappings.{is_own, is_present, may_follow, page_under}
 use Rattle.cove_model.specs.Offers.{is_found, is_mapped_for, may_succeed, seat_mapping}
-use Rattle.cove_model.specs.Sound.{IsSound, IsUsable, Leads}
+use Rattle.cove_model.specs.Sound.{IsSound, IsUsable, LeadsTo}
 use Rattle.cove_model.specs.States.{Seat, State}
 use Rattle.cove_model.specs.Steps.{after_event, done}
 use Rattle.cove_model.specs.Translations.{Tlb, holds_target}
@@ -28,11 +28,11 @@ use Rattle.cove_model.specs.Tvms.{Standing, Present, Blocked, Mapping}
 -- an access of a hart to a target may succeed, by a page that it may use or a mapping that it may follow
 abbrev pub Able : State → (h : ℕ) → Target → Type 0
 Able S h (target.Host p) = may_use h (page_at S.pages p.0) ≡ true
-Able S h (target.Fetch g) = (p : ℕ) × Leads S h true g.0 p
-Able S h (target.Access g) = (own : Bool) × ((p : ℕ) × Leads S h own g.0 p)
+Able S h (target.Fetch g) = (p : ℕ) × LeadsTo S h true g.0 p
+Able S h (target.Access g) = (own : Bool) × ((p : ℕ) × LeadsTo S h own g.0 p)
 
 -- a mapping that leads passes the test of its kind
-mapped_from : (S : State) (h g : ℕ) (own : Bool) (p : ℕ) (test : Mapping → Bool) (leads : Leads S h own g p) → test leads.mapping ≡ true → is_mapped_for S h g test ≡ true
+mapped_from : (S : State) (h g : ℕ) (own : Bool) (p : ℕ) (test : Mapping → Bool) (leads : LeadsTo S h own g p) → test leads.mapping ≡ true → is_mapped_for S h g test ≡ true
 mapped_from S h g own p test leads passes =
     ap (λ o. option_map_or (λ (seat : Seat). option_map_or test (seat_mapping S g seat) false) o false) leads.sits
     ∙ ap (λ o. option_map_or test o false) leads.found ∙ passes
@@ -62,7 +62,7 @@ found_able S h (target.Access g) e =
 
 -- ---- entries of other harts
 
-leads_other : (S : State) (h k : ℕ) (event : Event) (own : Bool) (g p : ℕ) → IsSound S → h < S.harts → (h ≡ k → ⊥) → Leads S h own g p → Leads (after_event S k event) h own g p
+leads_other : (S : State) (h k : ℕ) (event : Event) (own : Bool) (g p : ℕ) → IsSound S → h < S.harts → (h ≡ k → ⊥) → LeadsTo S h own g p → LeadsTo (after_event S k event) h own g p
 leads_other S h k event own g p sound lt ne leads =
     leads_line k h ((done S k event).seats k) (done S k event) own g p
     (leads_kept S (done S k event) h own g p (seat_other S k h event ne) (λ seat sits. keeps_done S h seat k event sound (record { on_board = lt; sits = sits }) ne) leads)
@@ -108,8 +108,8 @@ holds_able S h held (target.Host p) usable e =
     let f = all_any (λ q. may_use h (page_at S.pages q) ≡ true) (λ q. eqb q p.0) held.pages e usable.pages in
     subst (λ q. may_use h (page_at S.pages q) ≡ true) (eqb-true f.0 p.0 f.2) f.1
 holds_able S h held (target.Fetch g) usable e =
-    let f = all_any (λ (pair : ℕ × ℕ). Leads S h true pair.0 pair.1) (λ (pair : ℕ × ℕ). eqb pair.0 g.0) held.fetches e usable.fetches in
-    (f.0.1, subst (λ q. Leads S h true q f.0.1) (eqb-true f.0.0 g.0 f.2) f.1)
+    let f = all_any (λ (pair : ℕ × ℕ). LeadsTo S h true pair.0 pair.1) (λ (pair : ℕ × ℕ). eqb pair.0 g.0) held.fetches e usable.fetches in
+    (f.0.1, subst (λ q. LeadsTo S h true q f.0.1) (eqb-true f.0.0 g.0 f.2) f.1)
 holds_able S h held (target.Access g) usable e =
-    let f = all_any (λ (pair : ℕ × ℕ). (own : Bool) × Leads S h own pair.0 pair.1) (λ (pair : ℕ × ℕ). eqb pair.0 g.0) held.accesses e usable.accesses in
-    (f.1.0, (f.0.1, subst (λ q. Leads S h f.1.0 q f.0.1) (eqb-true f.0.0 g.0 f.2) f.1.1))
+    let f = all_any (λ (pair : ℕ × ℕ). (own : Bool) × LeadsTo S h own pair.0 pair.1) (λ (pair : ℕ × ℕ). eqb pair.0 g.0) held.accesses e usable.accesses in
+    (f.1.0, (f.0.1, subst (λ q. LeadsTo S h f.1.0 q f.0.1) (eqb-true f.0.0 g.0 f.2) f.1.1))

@@ -9,7 +9,7 @@ use Rattle.cove_model.proofs.KeyedLemmas.{at_alter_other, at_alter_same, at_appe
 use Rattle.cove_model.specs.GuestCalls.{remembered, reworded}
 use Rattle.cove_model.specs.GuestPages.{guests, is_among}
 use Rattle.cove_model.specs.Keyed.{at, alter, dropped}
-use Rattle.cove_model.specs.Mappings.{blocked, fenced_standing, is_fenced, is_own, left_standing, mapping_of, may_follow, page_under, restand, restood}
+use Rattle.cove_model.specs.Mappings.{blocked_standing, fenced_standing, is_fenced, is_own, left_standing, mapping_of, may_follow, page_under, restand, restood}
 use Rattle.cove_model.specs.Sound.{IsHeldWithin}
 use Rattle.cove_model.specs.Tvms.{Backing, OwnPage, HostPage, Standing, Present, Blocked, Mapping, Tvm, new_tvm}
 
@@ -118,7 +118,7 @@ keeps_on_tvm h t how numbers xs each u = ⊎_elim
 
 -- ---- how mappings stand to a hart
 
-pub blocked_follows : (h : ℕ) (held : List ℕ) → has h held ≡ true → (s : Standing) → may_follow h s ≡ true → may_follow h (blocked held s) ≡ true
+pub blocked_follows : (h : ℕ) (held : List ℕ) → has h held ≡ true → (s : Standing) → may_follow h s ≡ true → may_follow h (blocked_standing held s) ≡ true
 blocked_follows h held e Present q = e
 blocked_follows h held e (Blocked others waiting) q = q
 

@@ -28,10 +28,10 @@ use Rattle.cove_model.specs.Checks.{is_mapped_by}
 use Rattle.cove_model.specs.Deeds.{Deed, Tires, Fetches, Executes, Loads, Stores as Writes, Asks, Waits, Traps, deed_of}
 use Rattle.cove_model.specs.GuestCalls.{evidence_at, guest_rule, guest_word, overwritten, with_words, words_in}
 use Rattle.cove_model.specs.GuestPages.{guests, is_among}
-use Rattle.cove_model.specs.HostCalls.{page_records, rule, started, words_from}
+use Rattle.cove_model.specs.HostCalls.{page_records, rule, started, page_words_from}
 use Rattle.cove_base.specs.InterruptFiles.{raised}
 use Rattle.cove_model.specs.Keyed.{at, dropped}
-use Rattle.cove_model.specs.Mappings.{blocked, fenced_standing, fenced_tvm, is_fenced, left_standing, left_tvm, mapping_of, own_mappings, rebound, restood, shared_mappings, unblocked, with_mappings}
+use Rattle.cove_model.specs.Mappings.{blocked_standing, fenced_standing, fenced_tvm, is_fenced, left_standing, left_tvm, mapping_of, own_mappings, rebound, restood, shared_mappings, unblocked_standing, with_mappings}
 use Rattle.cove_model.specs.Offers.{cpu_of}
 use Rattle.cove_model.specs.Sound.{IsHeldWithin, IsSound, IsSoundMapping, IsSoundTvm}
 use Rattle.cove_model.specs.Steps.{acted, done, done_at, guest_done, guest_stored, host_done, left, left_by, on_seat, performed, stored_under}
@@ -99,7 +99,7 @@ keeps_call S h seat k (Region t gpa len) sound sits ok =
 keeps_call S h seat k (Tables t base n) sound sits ok =
     plain_one h S t (λ tvm. record tvm { tables = tvm.tables ++ guests base n }) (λ tvm. refl) (λ tvm. refl) seat.tvm
 keeps_call S h seat k (Measured t src dst n gpa) sound sits ok =
-    let contents = words_from S src n in
+    let contents = page_words_from S src n in
     let new = own_mappings (gpa / 4096) (dst / 4096) contents in
     let how : Tvm → Tvm = λ tvm. record (with_mappings gpa n new tvm) { records = tvm.records ++ page_records gpa contents } in
     one h S t how (λ tvm. refl) (λ tvm live. keeps_append h new tvm (how tvm) refl) seat.tvm
@@ -116,10 +116,10 @@ keeps_call S h seat k (Shared t base n gpa) sound sits ok =
 keeps_call S h seat k (Run t v fuel) sound sits ok =
     plain_one h S t (on_cpu v (λ cpu. record cpu { fuel = fuel; latched = None })) (λ tvm. refl) (λ tvm. refl) seat.tvm
 keeps_call S h seat k (Invalidate t gpa n) sound sits ok =
-    let how : Tvm → Tvm = λ tvm. record tvm { mappings = restood (is_among gpa n) (blocked (harts_inside S t)) tvm.mappings } in
+    let how : Tvm → Tvm = λ tvm. record tvm { mappings = restood (is_among gpa n) (blocked_standing (harts_inside S t)) tvm.mappings } in
     ⊎_elim
     (λ is. one h S t how (λ tvm. refl)
-    (λ tvm live. keeps_restood h (is_among gpa n) (blocked (harts_inside S t))
+    (λ tvm live. keeps_restood h (is_among gpa n) (blocked_standing (harts_inside S t))
     (blocked_follows h (harts_inside S t) (subst (λ u. has h (harts_inside S u) ≡ true) is (sits_inside S h seat sits))) tvm (how tvm) refl) seat.tvm)
     (λ ne. apart_one h S t how (λ tvm. refl) seat.tvm ne)
     (cases_eq seat.tvm t)
@@ -127,8 +127,8 @@ keeps_call S h seat k (TvmFence t) sound sits ok =
     one h S t (fenced_tvm (harts_inside S t)) (λ tvm. refl)
     (λ tvm live. keeps_restood h (λ g. true) (fenced_standing (harts_inside S t)) (fenced_follows h (harts_inside S t)) tvm (fenced_tvm (harts_inside S t) tvm) refl) seat.tvm
 keeps_call S h seat k (Validate t gpa n) sound sits ok =
-    let how : Tvm → Tvm = λ tvm. record tvm { mappings = restood (is_among gpa n) unblocked tvm.mappings } in
-    one h S t how (λ tvm. refl) (λ tvm live. keeps_restood h (is_among gpa n) unblocked (λ s q. refl) tvm (how tvm) refl) seat.tvm
+    let how : Tvm → Tvm = λ tvm. record tvm { mappings = restood (is_among gpa n) unblocked_standing tvm.mappings } in
+    one h S t how (λ tvm. refl) (λ tvm live. keeps_restood h (is_among gpa n) unblocked_standing (λ s q. refl) tvm (how tvm) refl) seat.tvm
 keeps_call S h seat k (Remove t gpa n) sound sits ok =
     let how : Tvm → Tvm = λ tvm. record tvm { mappings = dropped (λ m. is_among gpa n m.guest) tvm.mappings } in
     one h S t how (λ tvm. refl)
@@ -203,11 +203,11 @@ blocks (acts.Deny id) = false
 blocks acts.Other = false
 
 keeps_blocking : (h k : ℕ) (S : State) (t gpa n u : ℕ) (how : Tvm → Tvm) → ((tvm : Tvm) → (how tvm).number ≡ tvm.number)
-    → ((tvm : Tvm) → (how tvm).mappings ≡ restood (is_among gpa n) (blocked (without k (harts_inside S t))) tvm.mappings)
+    → ((tvm : Tvm) → (how tvm).mappings ≡ restood (is_among gpa n) (blocked_standing (without k (harts_inside S t))) tvm.mappings)
     → (u ≡ t → has h (without k (harts_inside S t)) ≡ true) → KeepsIn h u S (on_tvm t how S)
 keeps_blocking h k S t gpa n u how numbers same held = ⊎_elim
     (λ is. one h S t how numbers
-    (λ tvm live. keeps_restood h (is_among gpa n) (blocked (without k (harts_inside S t))) (blocked_follows h (without k (harts_inside S t)) (held is)) tvm (how tvm) (same tvm)) u)
+    (λ tvm live. keeps_restood h (is_among gpa n) (blocked_standing (without k (harts_inside S t))) (blocked_follows h (without k (harts_inside S t)) (held is)) tvm (how tvm) (same tvm)) u)
     (λ ne. apart_one h S t how numbers u ne)
     (cases_eq u t)
 

@@ -32,9 +32,9 @@ use Rattle.cove_model.specs.Deeds.{Deed, Tires, Fetches, Executes, Loads, Stores
 use Rattle.cove_model.specs.GuestCalls.{evidence_at, guest_rule, guest_word, overwritten, words_in}
 use Rattle.cove_model.specs.GuestPages.{guests, is_among}
 use Rattle.cove_model.specs.Histories.{after}
-use Rattle.cove_model.specs.HostCalls.{page_records, rule, started, words_from}
+use Rattle.cove_model.specs.HostCalls.{page_records, rule, started, page_words_from}
 use Rattle.cove_model.specs.Keyed.{alter, at, dropped}
-use Rattle.cove_model.specs.Mappings.{blocked, fenced_standing, left_standing, mapping_of, own_mappings, shared_mappings, unblocked, with_mappings}
+use Rattle.cove_model.specs.Mappings.{blocked_standing, fenced_standing, left_standing, mapping_of, own_mappings, shared_mappings, unblocked_standing, with_mappings}
 use Rattle.cove_model.specs.Orderly.{AreDistinct, guests_of}
 use Rattle.cove_model.specs.Measured.{AreSealed, IsMeasured, IsPage}
 use Rattle.cove_model.specs.Offers.{cpu_of}
@@ -209,7 +209,7 @@ came_call S h (Create root state) ok t now e = ⊎_elim
 came_call S h (Region t gpa len) ok u now e = inl (were_plain t _ (λ tvm. refl) (λ tvm. refl) (λ tvm. refl) (λ tvm. refl) S.tvms u now e)
 came_call S h (Tables t base n) ok u now e = inl (were_plain t _ (λ tvm. refl) (λ tvm. refl) (λ tvm. refl) (λ tvm. refl) S.tvms u now e)
 came_call S h (Measured t src dst n gpa) ok u now e =
-    let contents = words_from S src n in
+    let contents = page_words_from S src n in
     let how : Tvm → Tvm = λ tvm. record (with_mappings gpa n (own_mappings (gpa / 4096) (dst / 4096) contents) tvm) { records = tvm.records ++ page_records gpa contents } in
     inl (were_altered t how (λ tvm. refl) S.tvms
     (λ tvm live. goes_on tvm (how tvm) (page_records gpa contents) (building_found S t tvm live ok.1.0) refl refl (pages_recorded gpa contents)
@@ -231,9 +231,9 @@ came_call S h (Shared t base n gpa) ok u now e =
     (λ tvm live. goes_with tvm (with_mappings gpa n new tvm) refl refl
     (mapped_apart S t tvm gpa n new live ok.1.1.1.1.1.1.1.1.0 (pages_shared (gpa / 4096) (base / 4096) n))) u now e)
 came_call S h (Run t v fuel) ok u now e = inl (were_plain t _ (λ tvm. refl) (λ tvm. refl) (λ tvm. refl) (λ tvm. refl) S.tvms u now e)
-came_call S h (Invalidate t gpa n) ok u now e = inl (were_plain t _ (λ tvm. refl) (λ tvm. refl) (λ tvm. refl) (λ tvm. pages_restood (is_among gpa n) (blocked (harts_inside S t)) tvm.mappings) S.tvms u now e)
+came_call S h (Invalidate t gpa n) ok u now e = inl (were_plain t _ (λ tvm. refl) (λ tvm. refl) (λ tvm. refl) (λ tvm. pages_restood (is_among gpa n) (blocked_standing (harts_inside S t)) tvm.mappings) S.tvms u now e)
 came_call S h (TvmFence t) ok u now e = inl (were_plain t _ (λ tvm. refl) (λ tvm. refl) (λ tvm. refl) (λ tvm. pages_restood (λ g. true) (fenced_standing (harts_inside S t)) tvm.mappings) S.tvms u now e)
-came_call S h (Validate t gpa n) ok u now e = inl (were_plain t _ (λ tvm. refl) (λ tvm. refl) (λ tvm. refl) (λ tvm. pages_restood (is_among gpa n) unblocked tvm.mappings) S.tvms u now e)
+came_call S h (Validate t gpa n) ok u now e = inl (were_plain t _ (λ tvm. refl) (λ tvm. refl) (λ tvm. refl) (λ tvm. pages_restood (is_among gpa n) unblocked_standing tvm.mappings) S.tvms u now e)
 came_call S h (Remove t gpa n) ok u now e =
     let how : Tvm → Tvm = λ tvm. record tvm { mappings = dropped (λ m. is_among gpa n m.guest) tvm.mappings } in
     inl (were_altered t how (λ tvm. refl) S.tvms
@@ -277,9 +277,9 @@ were_performed S seat (Traps cause) = were_same S.tvms
 
 were_act : (S : State) (h t a0 a1 : ℕ) (act : GuestAct) → AllWere S.tvms (guest_rule S h t a0 a1 act).outcome.state.tvms
 were_act S h t a0 a1 (acts.Share gpa len) =
-    were_plain t _ (λ tvm. refl) (λ tvm. refl) (λ tvm. refl) (λ tvm. pages_restood (is_among gpa (len / 4096)) (blocked (without h (harts_inside S t))) tvm.mappings) S.tvms
+    were_plain t _ (λ tvm. refl) (λ tvm. refl) (λ tvm. refl) (λ tvm. pages_restood (is_among gpa (len / 4096)) (blocked_standing (without h (harts_inside S t))) tvm.mappings) S.tvms
 were_act S h t a0 a1 (acts.Unshare gpa len) =
-    were_plain t _ (λ tvm. refl) (λ tvm. refl) (λ tvm. refl) (λ tvm. pages_restood (is_among gpa (len / 4096)) (blocked (without h (harts_inside S t))) tvm.mappings) S.tvms
+    were_plain t _ (λ tvm. refl) (λ tvm. refl) (λ tvm. refl) (λ tvm. pages_restood (is_among gpa (len / 4096)) (blocked_standing (without h (harts_inside S t))) tvm.mappings) S.tvms
 were_act S h t a0 a1 acts.Extend = were_plain t _ (λ tvm. refl) (λ tvm. refl) (λ tvm. refl) (λ tvm. refl) S.tvms
 were_act S h t a0 a1 acts.Evidence =
     let how = overwritten (word_place a1) (words_in (evidence_at S t a0)) in

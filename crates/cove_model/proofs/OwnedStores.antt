@@ -12,7 +12,7 @@ use Rattle.cove_base.specs.declared.numbers.Role.TheVariants.{Root, State, Table
 use Rattle.cove_model.proofs.LeafWords.{blocked_named, blocked_next, given_host, given_number, given_role, next_named, none_named, present_named, present_next, role_small}
 use Rattle.cove_model.proofs.SlotStores.{entries_stay, entry_moves}
 use Rattle.cove_model.proofs.StoreLawProofs.{lawful_within}
-use Rattle.cove_model.specs.LawfulStores.{AreOwned, HasEntered, IsBehind, IsInside, IsLawful, Counts, Converts, Frees, Gives, TakesBack, Removes, ChangesTable, Answers, Begins, FencesTvm, Enters, Leaves, IsFreeIn, IsLeft, IsRoot, IsTableOf, LeafNames, TableChange, Links, Maps, Blocks, Unblocks, Unmaps, Rewrites}
+use Rattle.cove_model.specs.LawfulStores.{AreOwned, HasEntered, IsBehindLeaf, IsInside, IsLawful, Counts, Converts, Frees, Gives, TakesBack, Removes, ChangesTable, Answers, Begins, FencesTvm, Enters, Leaves, IsFreeIn, IsLeft, IsRoot, IsTableOf, LeafNames, TableChange, Links, Maps, Blocks, Unblocks, Unmaps, Rewrites}
 use Rattle.cove_model.specs.TableLaw.{StoresKeepOwned, ZerosKeepOwned}
 use Rattle.cove_model.specs.WordsStand.{FreeStands, answered_in, number_in}
 
@@ -86,7 +86,7 @@ module _ (pages : ℕ) (words : List ℕ) (tvm root : ℕ) (owned : AreOwned pag
       (roots : (p : ℕ) → p < pages → get_or words p 0 ≡ given tvm Root → get_or new p 0 ≡ given tvm Root)
       (least : (p : ℕ) → p < root → get_or new p 0 ≢ given tvm Root)
       (tables : (p : ℕ) → p < pages → get_or words p 0 ≡ given tvm Table → get_or new p 0 ≡ given tvm Table)
-      (behind : (g page : ℕ) (shared : Bool) → g < 2 ^ 29 → page < pages → Names page shared (leaf_at pages root words g) → IsBehind words tvm page shared → IsBehind new tvm page shared) where
+      (behind : (g page : ℕ) (shared : Bool) → g < 2 ^ 29 → page < pages → Names page shared (leaf_at pages root words g) → IsBehindLeaf words tvm page shared → IsBehindLeaf new tvm page shared) where
     pub owned_again : AreOwned pages new tvm root
     owned_again = record {
       root_is = record {
@@ -108,7 +108,7 @@ module _ (pages : ℕ) (words : List ℕ) (tvm root : ℕ) (owned : AreOwned pag
 
   module _ (place word : ℕ) (inside : place < pages)
       (no_root : get_or words place 0 ≢ given tvm Root) (new_root : word ≢ given tvm Root) (no_table : get_or words place 0 ≢ given tvm Table)
-      (behind : (g : ℕ) (shared : Bool) → g < 2 ^ 29 → Names place shared (leaf_at pages root words g) → IsBehind words tvm place shared → IsBehind (set words place word) tvm place shared) where
+      (behind : (g : ℕ) (shared : Bool) → g < 2 ^ 29 → Names place shared (leaf_at pages root words g) → IsBehindLeaf words tvm place shared → IsBehindLeaf (set words place word) tvm place shared) where
     abbrev stored : List ℕ
     stored = set words place word
 
@@ -118,7 +118,7 @@ module _ (pages : ℕ) (words : List ℕ) (tvm root : ℕ) (owned : AreOwned pag
     keeps : (p w : ℕ) → get_or words place 0 ≢ w → get_or words p 0 ≡ w → get_or stored p 0 ≡ w
     keeps p w off is = other_word p (λ e. off (ap (λ q. get_or words q 0) (sym e) ∙ is)) ∙ is
 
-    behind_other : (p : ℕ) (shared : Bool) → p ≢ place → IsBehind words tvm p shared → IsBehind stored tvm p shared
+    behind_other : (p : ℕ) (shared : Bool) → p ≢ place → IsBehindLeaf words tvm p shared → IsBehindLeaf stored tvm p shared
     behind_other p false ne was = other_word p ne ∙ was
     behind_other p true ne was = (was.0, was.1, other_word p ne ∙ was.2)
 
@@ -133,8 +133,8 @@ module _ (pages : ℕ) (words : List ℕ) (tvm root : ℕ) (owned : AreOwned pag
         ])
         (λ p low is. keeps p (given tvm Table) no_table is)
         (λ g page shared low on named was. elim (cases_eq page place) [
-          | inl here ↦ subst (λ p. IsBehind stored tvm p shared) (sym here)
-              (behind g shared low (subst (λ p. Names p shared (leaf_at pages root words g)) here named) (subst (λ p. IsBehind words tvm p shared) here was))
+          | inl here ↦ subst (λ p. IsBehindLeaf stored tvm p shared) (sym here)
+              (behind g shared low (subst (λ p. Names p shared (leaf_at pages root words g)) here named) (subst (λ p. IsBehindLeaf words tvm p shared) here was))
           | inr off ↦ behind_other page shared off was
         ])
 
@@ -147,7 +147,7 @@ module _ (pages : ℕ) (words : List ℕ) (tvm root : ℕ) (owned : AreOwned pag
     pub page_word_stays : (p : ℕ) → p < pages → get_or stored_past p 0 ≡ get_or words p 0
     page_word_stays p low = get_or-set_other words place p word 0 (omega arith)
 
-    pub behind_stays : (page : ℕ) (shared : Bool) → page < pages → IsBehind words tvm page shared → IsBehind stored_past tvm page shared
+    pub behind_stays : (page : ℕ) (shared : Bool) → page < pages → IsBehindLeaf words tvm page shared → IsBehindLeaf stored_past tvm page shared
     behind_stays page false low was = page_word_stays page low ∙ was
     behind_stays page true low was = (was.0, was.1, page_word_stays page low ∙ was.2)
 
@@ -170,7 +170,7 @@ module _ (pages : ℕ) (words : List ℕ) (tvm root : ℕ) (owned : AreOwned pag
     -- A slot may stand there, and its entry becomes the word.
     module _ (moves : (a : Slot) → IsSlot a → (entry_at pages root stored_past a ≡ entry_at pages root words a) ⊎ (StandsAt pages root words a place × (entry_at pages root stored_past a ≡ word)))
         (linked : (page : ℕ) → word ≡ next_table page → (page < pages) × (get_or words page 0 ≡ given tvm Table) × ((b : Slot) → IsLinkSlot b → entry_at pages root words b ≢ next_table page))
-        (backed : (g page : ℕ) (shared : Bool) → g < 2 ^ 29 → page < 2 ^ 16 → StandsAt pages root words (InLast g) place → Names page shared word → (page < pages) × IsBehind words tvm page shared) where
+        (backed : (g page : ℕ) (shared : Bool) → g < 2 ^ 29 → page < 2 ^ 16 → StandsAt pages root words (InLast g) place → Names page shared word → (page < pages) × IsBehindLeaf words tvm page shared) where
       new_linked : (a : Slot) (page : ℕ) → IsLinkSlot a → entry_at pages root stored_past a ≡ next_table page → (page < pages) × (get_or stored_past page 0 ≡ given tvm Table)
       new_linked a page slot named = elim (moves a (link-slot a slot)) [
         | inl same ↦ let was = owned.linked a page slot (sym same ∙ named) in (was.0, page_word_stays page was.0 ∙ was.1)
@@ -189,7 +189,7 @@ module _ (pages : ℕ) (words : List ℕ) (tvm root : ℕ) (owned : AreOwned pag
         ]
       ]
 
-      new_backed : (g page : ℕ) (shared : Bool) → g < 2 ^ 29 → page < 2 ^ 16 → Names page shared (leaf_at pages root stored_past g) → (page < pages) × IsBehind stored_past tvm page shared
+      new_backed : (g page : ℕ) (shared : Bool) → g < 2 ^ 29 → page < 2 ^ 16 → Names page shared (leaf_at pages root stored_past g) → (page < pages) × IsBehindLeaf stored_past tvm page shared
       new_backed g page shared low small named = elim (moves (InLast g) low) [
         | inl same ↦ let was = owned.backed g page shared low small (subst (Names page shared) same named) in (was.0, behind_stays page shared was.0 was.1)
         | inr moved ↦ let was = backed g page shared low small moved.0 (subst (Names page shared) moved.1 named) in (was.0, behind_stays page shared was.0 was.1)
@@ -230,7 +230,7 @@ one_owner words u t p (inr a) (inl b) = given_number u t Table Root (sym a ∙ b
 one_owner words u t p (inr a) (inr b) = given_number u t Table Table (sym a ∙ b)
 
 -- nothing stands behind a leaf at such a word
-not_behind : (words : List ℕ) (tvm place : ℕ) (shared : Bool) → get_or words place 0 ≢ given tvm Data → ((maps : ℕ) → 0 < maps → get_or words place 0 ≢ host maps) → IsBehind words tvm place shared → ⊥
+not_behind : (words : List ℕ) (tvm place : ℕ) (shared : Bool) → get_or words place 0 ≢ given tvm Data → ((maps : ℕ) → 0 < maps → get_or words place 0 ≢ host maps) → IsBehindLeaf words tvm place shared → ⊥
 not_behind words tvm place false no_data no_maps was = no_data was
 not_behind words tvm place true no_data no_maps was = no_maps was.0 was.1 was.2
 
@@ -268,7 +268,7 @@ module _ (pages harts hart other : ℕ) (old words : List ℕ) (place word tvm r
 
     -- of a word that names no table, where none was named
     plain_owned : ((q : ℕ) → get_or words place 0 ≢ next_table q) → ((q : ℕ) → word ≢ next_table q)
-        → ((g p : ℕ) (shared : Bool) → g < 2 ^ 29 → p < 2 ^ 16 → StandsAt pages root words (InLast g) place → Names p shared word → (p < pages) × IsBehind words tvm p shared)
+        → ((g p : ℕ) (shared : Bool) → g < 2 ^ 29 → p < 2 ^ 16 → StandsAt pages root words (InLast g) place → Names p shared word → (p < pages) × IsBehindLeaf words tvm p shared)
         → AreOwned pages after_store tvm root
     plain_owned was is backed =
         slot_stored pages words tvm root owned place word past
@@ -312,7 +312,7 @@ module _ (pages harts hart other : ℕ) (old words : List ℕ) (place word tvm r
         plain_owned (λ q named. let e = sym none ∙ named in absurd (omega arith)) (λ q named. present_next p s q (sym is ∙ named))
         (λ g k shared g-low k-low stands named.
         let same = present_named k shared word p s is named in
-        subst (λ x. (x < pages) × IsBehind words tvm x shared) (sym same.0) (p-below, subst (IsBehind words tvm p) (sym same.1) behind))
+        subst (λ x. (x < pages) × IsBehindLeaf words tvm x shared) (sym same.0) (p-below, subst (IsBehindLeaf words tvm p) (sym same.1) behind))
     own_owned (Blocks p s r g p-small was is root_is g-low stands before) =
         plain_owned (λ q named. present_next p s q (sym was ∙ named)) (λ q named. blocked_next p s (number_in pages harts words tvm) q (sym (is ∙ ap (λ w. blocked w (number_in pages harts words tvm)) was) ∙ named))
         (λ k x shared k-low x-low at_k named.
@@ -359,7 +359,7 @@ module _ (pages harts hart other : ℕ) (old words : List ℕ) (place word tvm r
       few_of : (g : ℕ) (shared : Bool) → g < 2 ^ 29 → Names place shared (leaf_at pages root words g) → after ≡ 0 → ⊥
       few_of g shared low named none = few none tvm (named_by page (sym at) g shared low named)
 
-      counted : (n : ℕ) → word ≡ host n → (shared : Bool) → IsBehind words tvm place shared → (n ≡ 0 → ⊥) → IsBehind after_store tvm place shared
+      counted : (n : ℕ) → word ≡ host n → (shared : Bool) → IsBehindLeaf words tvm place shared → (n ≡ 0 → ⊥) → IsBehindLeaf after_store tvm place shared
       counted n is false behind some = absurd (given_host tvm before Data (sym behind ∙ was))
       counted n is true behind some = (n, omega (arith, some), get_or-set_same words place word 0 (omega arith) ∙ is)
   owned_store (Converts page below at then now new) =

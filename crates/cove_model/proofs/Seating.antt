@@ -29,7 +29,7 @@ use Rattle.cove_model.specs.Answers.{refusal, refusal_by, state_after_rule, stat
 use Rattle.cove_model.specs.Deeds.{Deed, Tires, Fetches, Executes, Loads, Stores as Writes, Asks, Waits, Traps, deed_of}
 use Rattle.cove_model.specs.GuestCalls.{guest_rule, guest_word}
 use Rattle.cove_model.specs.GuestPages.{guests}
-use Rattle.cove_model.specs.HostCalls.{page_records, rule, started, words_from}
+use Rattle.cove_model.specs.HostCalls.{page_records, rule, started, page_words_from}
 use Rattle.cove_base.specs.InterruptFiles.{raised}
 use Rattle.cove_model.specs.Keyed.{alter}
 use Rattle.cove_model.specs.Mappings.{fenced_tvm, fenced_unbinding, left_tvm, left_unbinding, mapping_of, own_mappings, rebound, shared_mappings, with_mappings}
@@ -81,7 +81,7 @@ still_call S h seat sits k (Region t gpa len) ok =
 still_call S h seat sits k (Tables t base n) ok =
     still_plain seat.tvm seat.cpu t (λ tvm. record tvm { tables = tvm.tables ++ guests base n }) (λ tvm. refl) (λ tvm. refl) (λ tvm. refl) S.tvms
 still_call S h seat sits k (Measured t src dst n gpa) ok =
-    let contents = words_from S src n in
+    let contents = page_words_from S src n in
     let how : Tvm → Tvm = λ tvm. record (with_mappings gpa n (own_mappings (gpa / 4096) (dst / 4096) contents) tvm) { records = tvm.records ++ page_records gpa contents } in
     still_plain seat.tvm seat.cpu t how (λ tvm. refl) (λ tvm. refl) (λ tvm. refl) S.tvms
 still_call S h seat sits k (Vcpu t v state) ok =

@@ -20,10 +20,10 @@ use Rattle.cove_model.proofs.SoundPages.{IsSteady, IsSteadyPage, board_move, ris
 use Rattle.cove_model.proofs.SoundTvms.{AllSound, blocked_sound, dropped_sound, fenced_sound, own_sound, restood_sound, shared_sound, tvms_altered, tvms_moved, tvms_steady}
 use Rattle.cove_model.specs.GuestPages.{guests, is_among}
 use Rattle.cove_base.specs.Measurement.{FinalizeRecord}
-use Rattle.cove_model.specs.HostCalls.{giving_memory, page_records, rule, started, words_from}
+use Rattle.cove_model.specs.HostCalls.{giving_memory, page_records, rule, started, page_words_from}
 use Rattle.cove_base.specs.InterruptFiles.{raised}
 use Rattle.cove_model.specs.Keyed.{alter, dropped}
-use Rattle.cove_model.specs.Mappings.{blocked, fenced_standing, fenced_tvm, own_mappings, rebound, restood, shared_mappings, unblocked, with_mappings}
+use Rattle.cove_model.specs.Mappings.{blocked_standing, fenced_standing, fenced_tvm, own_mappings, rebound, restood, shared_mappings, unblocked_standing, with_mappings}
 use Rattle.cove_model.specs.Pages.{freed, given_to, removed}
 use Rattle.cove_model.specs.Tvms.{Backing, OwnPage, HostPage, Mapping, Standing, Present, Blocked, Begun, NotBegun, Tvm, new_tvm}
 
@@ -290,7 +290,7 @@ sound_call S h (Tables t base n) outside ok sound =
     one_tvm S h (Tables t base n) t (λ tvm. record tvm { tables = tvm.tables ++ guests base n })
     refl (λ u. refl) refl (steady_change (given_to t AsTable) (base / 4096) n S.pages (steady_gift t AsTable)) (λ tvm. refl) (λ tvm is all. all) outside ok sound
 sound_call S h (Measured t src dst n gpa) outside ok sound =
-    let contents = words_from S src n in
+    let contents = page_words_from S src n in
     let T = outcome_state S h (Measured t src dst n gpa) in
     let size = length_words S (src / 4096) n in
     let sizes = host_words S sound.pages_sound (src / 4096) n (all_hosts S src n ok.1.1.1.1.1.1.0 ok.1.1.1.1.1.1.1.1.0) in
@@ -330,17 +330,17 @@ sound_call S h (Run t v fuel) outside ok sound =
     (tvms_altered T t (on_cpu v (λ cpu. record cpu { fuel = fuel; latched = None })) (λ tvm. refl) (λ tvm is all. all) S.tvms
     (tvms_moved S T (λ u g b backed. backed) (λ u s held. entered_held (harts_inside S u) (harts_inside T u) (inside_entered S T h (record { tvm = t; cpu = v }) refl refl outside u) s held) S.tvms sound.tvms_sound))
 sound_call S h (Invalidate t gpa n) outside ok sound =
-    one_tvm S h (Invalidate t gpa n) t (λ tvm. record tvm { mappings = restood (is_among gpa n) (blocked (harts_inside S t)) tvm.mappings })
+    one_tvm S h (Invalidate t gpa n) t (λ tvm. record tvm { mappings = restood (is_among gpa n) (blocked_standing (harts_inside S t)) tvm.mappings })
     refl (λ u. refl) refl (steady_refl S.pages) (λ tvm. refl)
-    (λ tvm is all. restood_sound S.pages (harts_inside S t) t (is_among gpa n) (blocked (harts_inside S t)) (blocked_sound (harts_inside S t) (harts_inside S t) (λ k e. e)) tvm.mappings all) outside ok sound
+    (λ tvm is all. restood_sound S.pages (harts_inside S t) t (is_among gpa n) (blocked_standing (harts_inside S t)) (blocked_sound (harts_inside S t) (harts_inside S t) (λ k e. e)) tvm.mappings all) outside ok sound
 sound_call S h (TvmFence t) outside ok sound =
     one_tvm S h (TvmFence t) t (fenced_tvm (harts_inside S t))
     refl (λ u. refl) refl (steady_refl S.pages) (λ tvm. refl)
     (λ tvm is all. restood_sound S.pages (harts_inside S t) t (λ g. true) (fenced_standing (harts_inside S t)) (fenced_sound (harts_inside S t)) tvm.mappings all) outside ok sound
 sound_call S h (Validate t gpa n) outside ok sound =
-    one_tvm S h (Validate t gpa n) t (λ tvm. record tvm { mappings = restood (is_among gpa n) unblocked tvm.mappings })
+    one_tvm S h (Validate t gpa n) t (λ tvm. record tvm { mappings = restood (is_among gpa n) unblocked_standing tvm.mappings })
     refl (λ u. refl) refl (steady_refl S.pages) (λ tvm. refl)
-    (λ tvm is all. restood_sound S.pages (harts_inside S t) t (is_among gpa n) unblocked (λ s held. tt) tvm.mappings all) outside ok sound
+    (λ tvm is all. restood_sound S.pages (harts_inside S t) t (is_among gpa n) unblocked_standing (λ s held. tt) tvm.mappings all) outside ok sound
 sound_call S h (Remove t gpa n) outside ok sound =
     let T = outcome_state S h (Remove t gpa n) in
     sound_from S T h refl (λ p. move_call S h (Remove t gpa n) p ok) sound

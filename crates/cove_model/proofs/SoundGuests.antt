@@ -27,7 +27,7 @@ use Rattle.cove_model.specs.Answers.{refusal, refusal_by, state_after_rule, stat
 use Rattle.cove_model.specs.Deeds.{Deed, Tires, Fetches, Executes, Loads, Stores as Writes, Asks, Waits, Traps, deed_of}
 use Rattle.cove_model.specs.GuestCalls.{guest_rule, overwritten, with_words}
 use Rattle.cove_model.specs.GuestPages.{is_among}
-use Rattle.cove_model.specs.Mappings.{blocked, left_standing, left_tvm, mapping_of, restand}
+use Rattle.cove_model.specs.Mappings.{blocked_standing, left_standing, left_tvm, mapping_of, restand}
 use Rattle.cove_model.specs.Offers.{cpu_of}
 use Rattle.cove_model.specs.Steps.{acted, done, done_at, guest_done, guest_stored, host_done, left, left_by, line_ended, end_line, after_event, on_seat, performed, stored_under}
 use Rattle.cove_model.specs.Tvms.{Backing, OwnPage, HostPage, Standing, Present, Blocked, Cpu, Mapping, Tvm}
@@ -95,11 +95,11 @@ overwritten_length place new words =
 sound_act : (S : State) (h t a0 a1 : ℕ) (act : GuestAct) → IsSound S → IsSound (guest_rule S h t a0 a1 act).outcome.state
 sound_act S h t a0 a1 (acts.Share gpa len) sound =
     sound_on_tvm S t _ (λ tvm. refl)
-    (λ tvm is all. restood_sound S.pages (harts_inside S t) t (is_among gpa (len / 4096)) (blocked (without h (harts_inside S t)))
+    (λ tvm is all. restood_sound S.pages (harts_inside S t) t (is_among gpa (len / 4096)) (blocked_standing (without h (harts_inside S t)))
     (blocked_sound (harts_inside S t) (without h (harts_inside S t)) (λ k e. has_with h k (harts_inside S t) e)) tvm.mappings all) sound
 sound_act S h t a0 a1 (acts.Unshare gpa len) sound =
     sound_on_tvm S t _ (λ tvm. refl)
-    (λ tvm is all. restood_sound S.pages (harts_inside S t) t (is_among gpa (len / 4096)) (blocked (without h (harts_inside S t)))
+    (λ tvm is all. restood_sound S.pages (harts_inside S t) t (is_among gpa (len / 4096)) (blocked_standing (without h (harts_inside S t)))
     (blocked_sound (harts_inside S t) (without h (harts_inside S t)) (λ k e. has_with h k (harts_inside S t) e)) tvm.mappings all) sound
 sound_act S h t a0 a1 acts.Extend sound = sound_on_tvm S t _ (λ tvm. refl) (λ tvm is all. all) sound
 sound_act S h t a0 a1 acts.Evidence sound =

@@ -7,7 +7,7 @@ use Rattle.cove_model.specs.Sound.{Within, IsBacked, IsHeldWithin, IsSoundMappin
 use Rattle.cove_model.proofs.Lists.{all_filter, all_map, all_weaker}
 use Rattle.cove_model.proofs.SoundPages.{IsSteady, backed_steady, within_both}
 use Rattle.cove_model.specs.Keyed.{alter, dropped}
-use Rattle.cove_model.specs.Mappings.{blocked, fenced_standing, left_standing, own_mappings, restand, restood, shared_mappings}
+use Rattle.cove_model.specs.Mappings.{blocked_standing, fenced_standing, left_standing, own_mappings, restand, restood, shared_mappings}
 use Rattle.cove_model.specs.GuestCalls.{remembered, reworded}
 use Rattle.cove_model.specs.States.{State, harts_inside}
 use Rattle.cove_model.specs.Tvms.{Backing, OwnPage, HostPage, Standing, Present, Blocked, Mapping, Tvm}
@@ -80,7 +80,7 @@ restood_sound pages inside t test how each ms all = all_map (IsSoundMapping page
     one : (m : Mapping) → IsSoundMapping pages inside t m → IsSoundMapping pages inside t (restand test how m)
     one m sound = record { held_within = chosen (test m.guest) m.standing sound.held_within; backed = sound.backed }
 
-pub blocked_sound : (inside held : List ℕ) → Within held inside → (s : Standing) → IsHeldWithin inside s → IsHeldWithin inside (blocked held s)
+pub blocked_sound : (inside held : List ℕ) → Within held inside → (s : Standing) → IsHeldWithin inside s → IsHeldWithin inside (blocked_standing held s)
 blocked_sound inside held within Present sound = within
 blocked_sound inside held within (Blocked others waiting) sound = sound
 

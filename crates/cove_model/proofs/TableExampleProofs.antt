@@ -12,7 +12,7 @@ use Rattle.cove_base.specs.declared.numbers.Role.TheVariants.{Root, Table, Data}
 use Rattle.cove_model.proofs.LeafWords.{blocked_none, given_number, none_named, present_blocked, present_next, present_none, present_same}
 use Rattle.cove_model.proofs.Lists.{replicate_zero}
 use Rattle.cove_model.proofs.OwnedStores.{one_owner}
-use Rattle.cove_model.specs.LawfulStores.{AreOwned, HasEntered, IsBehind, IsInside, IsLawful, Counts, Converts, Frees, Gives, TakesBack, Removes, ChangesTable, Answers, Begins, FencesTvm, Enters, Leaves, IsLeft, IsTableOf, TableChange, Links, Maps, Blocks, Unblocks, Unmaps, Rewrites}
+use Rattle.cove_model.specs.LawfulStores.{AreOwned, HasEntered, IsBehindLeaf, IsInside, IsLawful, Counts, Converts, Frees, Gives, TakesBack, Removes, ChangesTable, Answers, Begins, FencesTvm, Enters, Leaves, IsLeft, IsTableOf, TableChange, Links, Maps, Blocks, Unblocks, Unmaps, Rewrites}
 use Rattle.cove_model.specs.TableExamples.{entered, fetching, guest, rooted}
 use Rattle.cove_model.specs.TableLaw.{EntersWithin, IsGuestLive, MayReach}
 use Rattle.cove_model.specs.WordsStand.{number_in}
@@ -171,7 +171,7 @@ host_change tvm one (Maps p s none is p-below behind) = go (present_same 0 false
   where
     go : (0 ≡ p) × (false ≡ s) → ⊥
     go same =
-        let data_word : get_or entered 0 0 ≡ given tvm Data = subst (λ x. IsBehind entered tvm x false) (sym same.0) (subst (IsBehind entered tvm p) (sym same.1) behind) in
+        let data_word : get_or entered 0 0 ≡ given tvm Data = subst (λ x. IsBehindLeaf entered tvm x false) (sym same.0) (subst (IsBehindLeaf entered tvm p) (sym same.1) behind) in
         let is : get_or entered 0 0 ≡ 0 = entered_other 0 (omega arith) in
         absurd (omega arith)
 host_change tvm one (Blocks p s r g p-small was is root_is g-low stands before) = present_none p s (sym was ∙ table_zero)

@@ -36,7 +36,7 @@ use Rattle.cove_model.specs.GuestCalls.{guest_rule}
 use Rattle.cove_model.specs.HostCalls.{Forgets, Keeps, ForgetsGuests, ForgetsAll, rule}
 use Rattle.cove_model.specs.Mappings.{is_own, mapping_of, may_follow, page_under}
 use Rattle.cove_model.specs.Offers.{cpu_of, is_mapped_for, may_succeed, seat_mapping}
-use Rattle.cove_model.specs.Sound.{IsSound, IsUsable, Leads}
+use Rattle.cove_model.specs.Sound.{IsSound, IsUsable, LeadsTo}
 use Rattle.cove_model.specs.Steps.{Allows, acted, after_event, done, done_at, end_line, guest_done, host_done, line_ended}
 use Rattle.cove_model.specs.Translations.{Came, Failed, Tlb, Touched, emptied_by, filled, forgets_at, forgets_by, forgets_inside, forgets_outside, pair_of, renewed, touched, where_accepted, with_target, with_touched}
 use Rattle.cove_model.specs.Tvms.{Mapping}
@@ -78,13 +78,13 @@ pair_page S h g seat m sits found =
     sym (ap (λ o. option_map_or (λ (s : Seat). option_map_or (λ (k : Mapping). page_under k.backing) (seat_mapping S g s) 0) o 0) sits
     ∙ ap (λ o. option_map_or (λ (k : Mapping). page_under k.backing) o 0) found)
 
-leads_fetch : (S : State) (h : ℕ) (g : Gpn) → may_succeed S h (target.Fetch g) ≡ true → Leads S h true (pair_of S h g.0).0 (pair_of S h g.0).1
+leads_fetch : (S : State) (h : ℕ) (g : Gpn) → may_succeed S h (target.Fetch g) ≡ true → LeadsTo S h true (pair_of S h g.0).0 (pair_of S h g.0).1
 leads_fetch S h g e =
     let m = is_mapped S h g.0 (λ k. is_own k.backing && may_follow h k.standing) e in
     let parts = and_parts (is_own m.mapping.backing) (may_follow h m.mapping.standing) m.passes in
     record { seat = m.seat; sits = m.sits; mapping = m.mapping; found = m.found; kind = parts.0; shows = pair_page S h g.0 m.seat m.mapping m.sits m.found; follows = parts.1 }
 
-leads_access : (S : State) (h : ℕ) (g : Gpn) → may_succeed S h (target.Access g) ≡ true → (own : Bool) × Leads S h own (pair_of S h g.0).0 (pair_of S h g.0).1
+leads_access : (S : State) (h : ℕ) (g : Gpn) → may_succeed S h (target.Access g) ≡ true → (own : Bool) × LeadsTo S h own (pair_of S h g.0).0 (pair_of S h g.0).1
 leads_access S h g e =
     let m = is_mapped S h g.0 (λ k. may_follow h k.standing) e in (
       is_own m.mapping.backing,
@@ -101,13 +101,13 @@ usable_target S h held (target.Host p) e usable = record {
 }
 usable_target S h held (target.Fetch g) e usable = record {
   pages = usable.pages;
-  fetches = all_filled (λ (pair : ℕ × ℕ). Leads S h true pair.0 pair.1) held.fetches (pair_of S h g.0) usable.fetches (leads_fetch S h g e);
+  fetches = all_filled (λ (pair : ℕ × ℕ). LeadsTo S h true pair.0 pair.1) held.fetches (pair_of S h g.0) usable.fetches (leads_fetch S h g e);
   accesses = usable.accesses;
 }
 usable_target S h held (target.Access g) e usable = record {
   pages = usable.pages;
   fetches = usable.fetches;
-  accesses = all_filled (λ (pair : ℕ × ℕ). (own : Bool) × Leads S h own pair.0 pair.1) held.accesses (pair_of S h g.0) usable.accesses (leads_access S h g e);
+  accesses = all_filled (λ (pair : ℕ × ℕ). (own : Bool) × LeadsTo S h own pair.0 pair.1) held.accesses (pair_of S h g.0) usable.accesses (leads_access S h g e);
 }
 
 usable_touched : (S : State) (h : ℕ) (held : Tlb) (t : Touched) → IsFair S h t → IsUsable S h held → IsUsable S h (with_touched S h t held)
@@ -130,7 +130,7 @@ usable_before script S h held event allows usable =
 
 -- what leads goes on leading where the seat stays and the mappings of its TVM are kept
 pub leads_kept : (S T : State) (h : ℕ) (own : Bool) (g p : ℕ) → T.seats h ≡ S.seats h
-    → ((seat : Seat) → S.seats h ≡ Some seat → KeepsTvm h (tvm_at S seat.tvm) (tvm_at T seat.tvm)) → Leads S h own g p → Leads T h own g p
+    → ((seat : Seat) → S.seats h ≡ Some seat → KeepsTvm h (tvm_at S seat.tvm) (tvm_at T seat.tvm)) → LeadsTo S h own g p → LeadsTo T h own g p
 leads_kept S T h own g p seats keeps leads =
     let k = keeps leads.seat leads.sits g leads.mapping leads.found leads.follows in
     record {
@@ -147,9 +147,9 @@ pub usable_kept : (S T : State) (h : ℕ) (held : Tlb) → ((p : ℕ) → may_us
     → ((seat : Seat) → S.seats h ≡ Some seat → KeepsTvm h (tvm_at S seat.tvm) (tvm_at T seat.tvm)) → IsUsable S h held → IsUsable T h held
 usable_kept S T h held pages seats keeps usable = record {
   pages = all_weaker (λ p. may_use h (page_at S.pages p) ≡ true) (λ p. may_use h (page_at T.pages p) ≡ true) pages held.pages usable.pages;
-  fetches = all_weaker (λ (pair : ℕ × ℕ). Leads S h true pair.0 pair.1) (λ (pair : ℕ × ℕ). Leads T h true pair.0 pair.1)
+  fetches = all_weaker (λ (pair : ℕ × ℕ). LeadsTo S h true pair.0 pair.1) (λ (pair : ℕ × ℕ). LeadsTo T h true pair.0 pair.1)
       (λ pair leads. leads_kept S T h true pair.0 pair.1 seats keeps leads) held.fetches usable.fetches;
-  accesses = all_weaker (λ (pair : ℕ × ℕ). (own : Bool) × Leads S h own pair.0 pair.1) (λ (pair : ℕ × ℕ). (own : Bool) × Leads T h own pair.0 pair.1)
+  accesses = all_weaker (λ (pair : ℕ × ℕ). (own : Bool) × LeadsTo S h own pair.0 pair.1) (λ (pair : ℕ × ℕ). (own : Bool) × LeadsTo T h own pair.0 pair.1)
       (λ pair leads. (leads.0, leads_kept S T h leads.0 pair.0 pair.1 seats keeps leads.1)) held.accesses usable.accesses;
 }
 
@@ -158,11 +158,11 @@ usable_outside : (S T : State) (h : ℕ) (held : Tlb) → S.seats h ≡ None →
     → IsUsable S h held → IsUsable T h held
 usable_outside S T h held outside pages usable = record {
   pages = all_weaker (λ p. may_use h (page_at S.pages p) ≡ true) (λ p. may_use h (page_at T.pages p) ≡ true) pages held.pages usable.pages;
-  fetches = all_weaker (λ (pair : ℕ × ℕ). Leads S h true pair.0 pair.1) (λ (pair : ℕ × ℕ). Leads T h true pair.0 pair.1) (λ pair leads. absurd (apart leads)) held.fetches usable.fetches;
-  accesses = all_weaker (λ (pair : ℕ × ℕ). (own : Bool) × Leads S h own pair.0 pair.1) (λ (pair : ℕ × ℕ). (own : Bool) × Leads T h own pair.0 pair.1) (λ pair leads. absurd (apart leads.1)) held.accesses usable.accesses;
+  fetches = all_weaker (λ (pair : ℕ × ℕ). LeadsTo S h true pair.0 pair.1) (λ (pair : ℕ × ℕ). LeadsTo T h true pair.0 pair.1) (λ pair leads. absurd (apart leads)) held.fetches usable.fetches;
+  accesses = all_weaker (λ (pair : ℕ × ℕ). (own : Bool) × LeadsTo S h own pair.0 pair.1) (λ (pair : ℕ × ℕ). (own : Bool) × LeadsTo T h own pair.0 pair.1) (λ pair leads. absurd (apart leads.1)) held.accesses usable.accesses;
 }
   where
-    apart : {own : Bool} {g p : ℕ} → Leads S h own g p → ⊥
+    apart : {own : Bool} {g p : ℕ} → LeadsTo S h own g p → ⊥
     apart leads = none-some leads.seat (sym outside ∙ leads.sits)
 
 usable_pages : (S T : State) (h : ℕ) (held : Tlb) → ((p : ℕ) → may_use h (page_at S.pages p) ≡ true → may_use h (page_at T.pages p) ≡ true)
@@ -291,39 +291,39 @@ usable_other S h k held event sound lt ne usable =
     (λ seat sits. keeps_done S h seat k event sound (record { on_board = lt; sits = sits }) ne) usable)
 
 -- the end of a line leaves what leads
-pub leads_line : (h k : ℕ) (o : Option Seat) (S : State) (own : Bool) (g p : ℕ) → Leads S k own g p → Leads (line_ended h o S) k own g p
+pub leads_line : (h k : ℕ) (o : Option Seat) (S : State) (own : Bool) (g p : ℕ) → LeadsTo S k own g p → LeadsTo (line_ended h o S) k own g p
 leads_line h k None S own g p leads = record { seat = leads.seat; sits = leads.sits; mapping = leads.mapping; found = leads.found; kind = leads.kind; shows = leads.shows; follows = leads.follows }
 leads_line h k (Some seat) S own g p leads = leads
 
 -- what led before an event leads after it, in the same TVM
-pub record LeadsOn (S T : State) (h : ℕ) (own : Bool) (g p : ℕ) (leads : Leads S h own g p) : Type 0 where
-  pub later : Leads T h own g p
+pub record LeadsOn (S T : State) (h : ℕ) (own : Bool) (g p : ℕ) (leads : LeadsTo S h own g p) : Type 0 where
+  pub later : LeadsTo T h own g p
   pub same : later.seat.tvm ≡ leads.seat.tvm
 
 pub leads_on : (S T : State) (k : ℕ) (o : Option Seat) (h : ℕ) (own : Bool) (g p : ℕ) → T.seats h ≡ S.seats h
-    → ((seat : Seat) → S.seats h ≡ Some seat → KeepsTvm h (tvm_at S seat.tvm) (tvm_at T seat.tvm)) → (leads : Leads S h own g p) → LeadsOn S (line_ended k o T) h own g p leads
+    → ((seat : Seat) → S.seats h ≡ Some seat → KeepsTvm h (tvm_at S seat.tvm) (tvm_at T seat.tvm)) → (leads : LeadsTo S h own g p) → LeadsOn S (line_ended k o T) h own g p leads
 unfolding leads_line leads_kept
 leads_on S T k None h own g p seats keeps leads = let l = leads_kept S T h own g p seats keeps leads in record { later = leads_line k h None T own g p l; same = refl }
 leads_on S T k (Some seat) h own g p seats keeps leads = record { later = leads_kept S T h own g p seats keeps leads; same = refl }
 
 -- an entry of a hart: each pair that it holds afterwards leads on, where it led before
 pub leads_own : (script : ScriptValue) (S : State) (h : ℕ) (held : Tlb) (event : Event) → Allows script S h event
-    → ((own : Bool) (g p : ℕ) (leads : Leads S h own g p) → LeadsOn S (after_event S h event) h own g p leads) ⊎ (((renewed S h held event).fetches ≡ []) × ((renewed S h held event).accesses ≡ []))
+    → ((own : Bool) (g p : ℕ) (leads : LeadsTo S h own g p) → LeadsOn S (after_event S h event) h own g p leads) ⊎ (((renewed S h held event).fetches ≡ []) × ((renewed S h held event).accesses ≡ []))
 leads_own script S h held event allows = go (S.seats h) refl (done S h event) refl (forgets_by S h event) refl
   where
     none : (f : Forgets) (t : Tlb) → f ≡ ForgetsGuests → ((emptied_by f t).fetches ≡ []) × ((emptied_by f t).accesses ≡ [])
     none f t e = (ap (λ x. (emptied_by x t).fetches) e, ap (λ x. (emptied_by x t).accesses) e)
 
     inside : (seat : Seat) → S.seats h ≡ Some seat → (T : State) → guest_done S h seat event ≡ T → (f : Forgets) → forgets_inside S h seat event ≡ f → OwnKeeps S (guest_done S h seat event) h (forgets_inside S h seat event)
-        → ((own : Bool) (g p : ℕ) (leads : Leads S h own g p) → LeadsOn S (line_ended h (T.seats h) T) h own g p leads)
+        → ((own : Bool) (g p : ℕ) (leads : LeadsTo S h own g p) → LeadsOn S (line_ended h (T.seats h) T) h own g p leads)
         ⊎ (((emptied_by f (with_touched S h (touched S h event) held)).fetches ≡ []) × ((emptied_by f (with_touched S h (touched S h event) held)).accesses ≡ []))
     inside seat sits T is f fs (KeepsAll seats keeps) =
-        let Q : State → Type 0 = λ U. (own : Bool) (g p : ℕ) (leads : Leads S h own g p) → LeadsOn S (line_ended h (U.seats h) U) h own g p leads in
+        let Q : State → Type 0 = λ U. (own : Bool) (g p : ℕ) (leads : LeadsTo S h own g p) → LeadsOn S (line_ended h (U.seats h) U) h own g p leads in
         inl (subst Q is (λ own g p leads. leads_on S (guest_done S h seat event) h ((guest_done S h seat event).seats h) h own g p seats keeps leads))
     inside seat sits T is f fs (Empties e) = inr (none f (with_touched S h (touched S h event) held) (sym fs ∙ e))
 
     go : (o : Option Seat) → S.seats h ≡ o → (T : State) → done_at S h o event ≡ T → (f : Forgets) → forgets_at S h o event ≡ f
-        → ((own : Bool) (g p : ℕ) (leads : Leads S h own g p) → LeadsOn S (line_ended h (T.seats h) T) h own g p leads)
+        → ((own : Bool) (g p : ℕ) (leads : LeadsTo S h own g p) → LeadsOn S (line_ended h (T.seats h) T) h own g p leads)
         ⊎ (((emptied_by f (with_touched S h (touched S h event) held)).fetches ≡ []) × ((emptied_by f (with_touched S h (touched S h event) held)).accesses ≡ []))
     go None outside T is f fs = inl (λ own g p leads. absurd (none-some leads.seat (sym outside ∙ leads.sits)))
     go (Some seat) sits T is f fs = inside seat sits T is f fs (guest_keeps script S h seat event allows sits)

@@ -4,7 +4,7 @@ use Rattle.cove_base.proofs.HostWalkLemmas.{says_so}
 use Rattle.cove_base.specs.HartValues.{HartRings, Holding, rings_with}
 use Rattle.cove_base.specs.HostWalks.{says_host}
 use Rattle.cove_base.specs.PageWords.{IsHostWord}
-use Rattle.cove_base.specs.Rings.{found, filled as ring_with}
+use Rattle.cove_base.specs.Rings.{found, ring_with}
 use Rattle.cove_base.specs.Scripts.{ScriptValue}
 use Rattle.cove_base.specs.declared.events.Entry.{Entry}
 use Rattle.cove_base.specs.declared.events.Walked.TheVariants.{Found, Missing}

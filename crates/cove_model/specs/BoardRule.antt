@@ -67,8 +67,8 @@ HasFound None p = ⊥
 HasFound (Some noted) p = FindsPage noted.target noted.walked p
 
 -- a hart names a host page by its ring, or by a walk that it has not used yet
-abbrev pub Names : Holding → (p : ℕ) → Type 0
-Names held p = IsSome (found p held.rings.hosts) ⊎ HasFound held.walked p
+abbrev pub HoldingNames : Holding → (p : ℕ) → Type 0
+HoldingNames held p = IsSome (found p held.rings.hosts) ⊎ HasFound held.walked p
 
 -- The part of a hart of the board, by what it holds. Each page that its ring of host pages names is one of the board that
 -- the hart may use by the words: it is the host's, or in conversion, and the hart has answered no later epoch. Its rings
@@ -174,7 +174,7 @@ abbrev pub FittingHartsUse : Type 0
 FittingHartsUse =
     (script : ScriptValue) (history : List Entry) (words : List ℕ) (held : HartValue) (p : ℕ)
     → IsTrue (is_within_limits script) → IsMonitored script history words words
-    → Fits script history held → Names (holding held) p → (p < script.pages) × MayUse script.pages words held.hart p
+    → Fits script history held → HoldingNames (holding held) p → (p < script.pages) × MayUse script.pages words held.hart p
 
 -- And a walk of a hart of which it holds was right: the page that it found was the host's at a moment since the
 -- hart's last entry, also where it was made while another hart stored.

@@ -5,7 +5,7 @@ use Rattle.cove_model.specs.Owners.{holder, page_at}
 use Rattle.cove_model.specs.Types.{ScriptValue, Entry, Event, Hit, Walk}
 use Rattle.cove_model.specs.Histories.{EachEntry, after, own}
 use Rattle.cove_model.specs.Offers.{is_found}
-use Rattle.cove_model.specs.Translations.{Touched, Way, Came, Failed, holds_target, names, tlb, touched}
+use Rattle.cove_model.specs.Translations.{Touched, Arrival, Came, Failed, holds_target, names, tlb, touched}
 
 -- a walk found the target at a moment since the hart's last entry
 pub record WasFound (script : ScriptValue) (history : List Entry) (hart : ℕ) (target : Target) : Type 0 where
@@ -16,7 +16,7 @@ pub record WasFound (script : ScriptValue) (history : List Entry) (hart : ℕ) (
   pub found : is_found (after script earlier) hart target ≡ true
 
 -- an access of a hart to a target comes by a hit, by a walk or not at all: a hit exactly where the hart holds the target
-abbrev pub Reaches : ScriptValue → (history : List Entry) (hart : ℕ) → Target → Way → Type 0
+abbrev pub Reaches : ScriptValue → (history : List Entry) (hart : ℕ) → Target → Arrival → Type 0
 Reaches script history h target (Came Hit) = holds_target (tlb script history h) target ≡ true
 Reaches script history h target (Came Walk) =
     (holds_target (tlb script history h) target ≡ false) × WasFound script history h target

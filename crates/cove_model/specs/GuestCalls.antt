@@ -18,7 +18,7 @@ use Rattle.cove_model.specs.Checks.{Identity, is_mapped_by}
 use Rattle.cove_model.specs.GuestPages.{are_of_one_region, is_among, is_private, is_shared, row_count, shared_with, shared_without}
 use Rattle.cove_model.specs.HostCalls.{ForgetsGuests, Rule, forgetting, giving, simply}
 use Rattle.cove_model.specs.Deeds.{next_place}
-use Rattle.cove_model.specs.Mappings.{blocked, is_own, is_present, mapping_of, restood}
+use Rattle.cove_model.specs.Mappings.{blocked_standing, is_own, is_present, mapping_of, restood}
 use Rattle.cove_model.specs.Tvms.{Backing, OwnPage, HostPage, Mapping, Cpu, Tvm}
 
 -- ---- words of guest memory
@@ -88,7 +88,7 @@ InOwnPage S t addr size =
 
 -- mappings of some guest pages are blocked, for the harts inside but the one that asks
 abbrev pub blocking : State → (h t gpa n : ℕ) → List Mapping → List Mapping
-blocking S h t gpa n mappings = restood (is_among gpa n) (blocked (without h (harts_inside S t))) mappings
+blocking S h t gpa n mappings = restood (is_among gpa n) (blocked_standing (without h (harts_inside S t))) mappings
 
 -- the evidence of a TVM over the nonce at an address
 abbrev pub evidence_at : State → (t nonce : ℕ) → List ℕ
@@ -133,7 +133,7 @@ abbrev pub stepped : (pc : ℕ) → Cpu → Cpu
 stepped pc cpu = record cpu { pc = pc; latched = None; fuel = cpu.fuel - 1 }
 
 -- a vCPU that was answered, refused or not: the status in a0, the value in a1
-abbrev pub told : Reply → Cpu → Cpu
-told reply cpu = stepped (next_place cpu.pc) (record cpu {
+abbrev pub with_reply : Reply → Cpu → Cpu
+with_reply reply cpu = stepped (next_place cpu.pc) (record cpu {
   x = written (written cpu.x 10 (status_word (code_of reply.status))) 11 reply.value;
 })

@@ -10,7 +10,7 @@ use Rattle.cove_model.specs.Checks.{Inside, AllHost, AllFree, NoneShared, AllAns
 use Rattle.cove_model.specs.GuestPages.{guests, is_among}
 use Rattle.cove_base.specs.InterruptFiles.{raised}
 use Rattle.cove_model.specs.Keyed.{dropped}
-use Rattle.cove_model.specs.Mappings.{blocked, fenced_tvm, own_mappings, rebound, restood, shared_mappings, unblocked, with_mappings}
+use Rattle.cove_model.specs.Mappings.{blocked_standing, fenced_tvm, own_mappings, rebound, restood, shared_mappings, unblocked_standing, with_mappings}
 use Rattle.cove_model.specs.Pages.{change_each, freed, given_to, removed}
 use Rattle.cove_model.specs.Tvms.{Begun, NotBegun, Cpu, new_tvm}
 
@@ -53,8 +53,8 @@ giving_memory t base n gpa S = record S {
 }
 
 -- the words of the n pages of the host's from an address on
-abbrev pub words_from : State → (base n : ℕ) → List (List ℕ)
-words_from S base n = map (λ p. words_of (page_at S.pages p)) (guests base n)
+abbrev pub page_words_from : State → (base n : ℕ) → List (List ℕ)
+page_words_from S base n = map (λ p. words_of (page_at S.pages p)) (guests base n)
 
 -- the records of pages at the guest addresses from one on
 abbrev pub page_records : (gpa : ℕ) → List (List ℕ) → List Record
@@ -93,7 +93,7 @@ rule S h (Tables t base n) = simply
     (Live S t ∷ Count n ∷ Aligned base ∷ Inside S base n ∷ AllFree S base n ∷ [])
     (on_tvm t (λ tvm. record tvm { tables = tvm.tables ++ guests base n }) (giving_pages t AsTable base n S))
 rule S h (Measured t src dst n gpa) =
-    let contents = words_from S src n in
+    let contents = page_words_from S src n in
     simply
     (Live S t ∷ IsBuilding S t ∷ Count n ∷ Aligned src ∷ Aligned dst ∷ Aligned gpa ∷ Inside S src n ∷ Inside S dst n
     ∷ AllHost S src n ∷ AllFree S dst n ∷ AllPrivate S t gpa n ∷ Unmapped S t gpa n ∷ EnoughTables S t gpa n ∷ [])
@@ -127,13 +127,13 @@ rule S h (Run t v fuel) = forgetting ForgetsGuests
     }))
 rule S h (Invalidate t gpa n) = simply
     (Live S t ∷ IsRunnable S t ∷ Count n ∷ Aligned gpa ∷ AllPresent S t gpa n ∷ [])
-    (on_tvm t (λ tvm. record tvm { mappings = restood (is_among gpa n) (blocked (harts_inside S t)) tvm.mappings }) S)
+    (on_tvm t (λ tvm. record tvm { mappings = restood (is_among gpa n) (blocked_standing (harts_inside S t)) tvm.mappings }) S)
 rule S h (TvmFence t) = simply
     (Live S t ∷ IsRunnable S t ∷ AllLeft S t ∷ [])
     (on_tvm t (fenced_tvm (harts_inside S t)) S)
 rule S h (Validate t gpa n) = simply
     (Live S t ∷ IsRunnable S t ∷ Count n ∷ Aligned gpa ∷ AllBlocked S t gpa n ∷ KindsKept S t gpa n ∷ [])
-    (on_tvm t (λ tvm. record tvm { mappings = restood (is_among gpa n) unblocked tvm.mappings }) S)
+    (on_tvm t (λ tvm. record tvm { mappings = restood (is_among gpa n) unblocked_standing tvm.mappings }) S)
 rule S h (Remove t gpa n) = simply
     (Live S t ∷ IsRunnable S t ∷ Count n ∷ Aligned gpa ∷ AllBlocked S t gpa n ∷ AllFenced S t gpa n ∷ [])
     (on_tvm t (λ tvm. record tvm { mappings = dropped (λ mapping. is_among gpa n mapping.guest) tvm.mappings })

@@ -50,9 +50,9 @@ IsTableOf words tvm page =
     (slice_index words (page_word page) ≡ given tvm Root) ⊎ (slice_index words (page_word page) ≡ given tvm Table)
 
 -- what stands behind a leaf: a page of the TVM's memory, or one of the host's that is mapped
-abbrev pub IsBehind : (words : List ℕ) (tvm page : ℕ) (shared : Bool) → Type 0
-IsBehind words tvm page false = slice_index words (page_word page) ≡ given tvm Data
-IsBehind words tvm page true = (maps : ℕ) × (0 < maps) × (slice_index words (page_word page) ≡ host maps)
+abbrev pub IsBehindLeaf : (words : List ℕ) (tvm page : ℕ) (shared : Bool) → Type 0
+IsBehindLeaf words tvm page false = slice_index words (page_word page) ≡ given tvm Data
+IsBehindLeaf words tvm page true = (maps : ℕ) × (0 < maps) × (slice_index words (page_word page) ≡ host maps)
 
 -- The tables of a TVM are owned: each page that a link names is given to the TVM for tables, no two links name one, and each
 -- page that a leaf names, present or blocked, stands behind it.
@@ -66,7 +66,7 @@ pub record AreOwned (pages : ℕ) (words : List ℕ) (tvm root : ℕ) : Type 0 w
       → entry_at pages root words a ≡ next_table page → entry_at pages root words b ≡ next_table page → a ≡ b
   pub backed :
       (g page : ℕ) (shared : Bool) → g < 2 ^ 29 → page < 2 ^ 16 → Names page shared (leaf_at pages root words g)
-      → (page < pages) × IsBehind words tvm page shared
+      → (page < pages) × IsBehindLeaf words tvm page shared
 
 -- How a word in the tables of a TVM may change, by what it was, what it becomes and where it stands.
 pub data TableChange (pages harts : ℕ) (words : List ℕ) (tvm : ℕ) (old : List ℕ) (place was word : ℕ) : Type 0 where
@@ -80,7 +80,7 @@ pub data TableChange (pages harts : ℕ) (words : List ℕ) (tvm : ℕ) (old : L
   -- a guest page is mapped to the page that stands behind it
   Maps :
       (page : ℕ) (shared : Bool) → was ≡ 0 → word ≡ present page shared → page < pages
-      → IsBehind words tvm page shared
+      → IsBehindLeaf words tvm page shared
       → TableChange pages harts words tvm old place was word
   -- a leaf that was present at the last entry too is blocked, with the TVM's number
   Blocks :

@@ -40,13 +40,13 @@ abbrev pub restood : (test : ℕ → Bool) → (how : Standing → Standing) →
 restood test how mappings = map (restand test how) mappings
 
 -- a mapping that is present is blocked, with the harts that may hold a translation of it yet
-abbrev pub blocked : (held : List ℕ) → Standing → Standing
-blocked held Present = Blocked held None
-blocked held (Blocked others waiting) = Blocked others waiting
+abbrev pub blocked_standing : (held : List ℕ) → Standing → Standing
+blocked_standing held Present = Blocked held None
+blocked_standing held (Blocked others waiting) = Blocked others waiting
 
 -- a mapping that is blocked is present again
-abbrev pub unblocked : Standing → Standing
-unblocked standing = Present
+abbrev pub unblocked_standing : Standing → Standing
+unblocked_standing standing = Present
 
 -- ---- fences of the TVM, and what waits for them
 

@@ -56,7 +56,7 @@ pub record IsSound (S : State) : Type 0 where
   pub tvms_sound : AllByRecursion (IsSoundTvm S) S.tvms
 
 -- a guest page of the TVM that a hart is inside is mapped, privately or not, to a page, and the hart may follow the mapping
-pub record Leads (S : State) (h : ℕ) (own : Bool) (g p : ℕ) : Type 0 where
+pub record LeadsTo (S : State) (h : ℕ) (own : Bool) (g p : ℕ) : Type 0 where
   pub seat : Seat
   pub sits : S.seats h ≡ Some seat
   pub mapping : Mapping
@@ -69,8 +69,8 @@ pub record Leads (S : State) (h : ℕ) (own : Bool) (g p : ℕ) : Type 0 where
 -- page leads to its page, privately where it is for fetches
 pub record IsUsable (S : State) (h : ℕ) (held : Tlb) : Type 0 where
   pub pages : AllByRecursion (λ p. may_use h (page_at S.pages p) ≡ true) held.pages
-  pub fetches : AllByRecursion (λ pair. Leads S h true pair.0 pair.1) held.fetches
-  pub accesses : AllByRecursion (λ pair. (own : Bool) × Leads S h own pair.0 pair.1) held.accesses
+  pub fetches : AllByRecursion (λ pair. LeadsTo S h true pair.0 pair.1) held.fetches
+  pub accesses : AllByRecursion (λ pair. (own : Bool) × LeadsTo S h own pair.0 pair.1) held.accesses
 
 -- the board is the script's
 pub record IsBoardOf (script : ScriptValue) (S : State) : Type 0 where

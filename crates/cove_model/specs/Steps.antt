@@ -10,7 +10,7 @@ use Rattle.cove_model.specs.States.{page_of, word_place, Seat, State, ended_by, 
 use Rattle.cove_model.specs.Types.{ScriptValue, Entry, Event, How, Line}
 use Rattle.cove_model.specs.Answers.{reply_by, state_after, state_after_rule}
 use Rattle.cove_model.specs.Deeds.{Deed, Executes, Loads, Stores, deed_of, next_place}
-use Rattle.cove_model.specs.GuestCalls.{guest_rule, guest_word, stepped, told, with_words}
+use Rattle.cove_model.specs.GuestCalls.{guest_rule, guest_word, stepped, with_reply, with_words}
 use Rattle.cove_model.specs.Mappings.{left_tvm, mapping_of}
 use Rattle.cove_model.specs.Offers.{Offer, Nothing, Behind, Single, Touch, cpu_of, is_found, may_succeed, offer}
 use Rattle.cove_model.specs.Tvms.{Backing, OwnPage, HostPage, Cpu}
@@ -96,7 +96,7 @@ abbrev pub acted : State → (hart : ℕ) → Seat → GuestAct → State
 acted S h seat act =
     let x = (cpu_of S seat).x in
     let r = guest_rule S h seat.tvm (register x 10) (register x 11) act in
-    on_seat seat (told (reply_by r)) (state_after_rule S r)
+    on_seat seat (with_reply (reply_by r)) (state_after_rule S r)
 
 -- a vCPU after its run: a trap stops it, and a wait is over
 abbrev pub left_by : Exit → Cpu → Cpu

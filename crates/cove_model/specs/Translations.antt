@@ -32,13 +32,13 @@ nothing_held = record { pages = []; fetches = []; accesses = [] }
 -- ---- what an event looked for
 
 -- an access came to its page, by a translation or by a walk, or it did not
-pub data Way : Type 0 where
-  Came : (how : How) → Way
-  Failed : Way
+pub data Arrival : Type 0 where
+  Came : (how : How) → Arrival
+  Failed : Arrival
 
 -- what an event looked for, and what came of it
 abbrev pub Touched : Type 0
-Touched = Option (Target × Way)
+Touched = Option (Target × Arrival)
 
 abbrev pub host_touched : Event → Touched
 host_touched (Event.Load addr how value) = Some (host_target addr, Came how)

@@ -15,7 +15,7 @@ use Rattle.cove_board.specs.Parts.{HartPart, hart_alone, hart_of, left_part, mon
 use Rattle.cove_board.specs.Passes.{IsHeld, PassValue, guard_of, place_code}
 use Rattle.cove_core.specs.Kept.{IsKept}
 use Rattle.cove_core.specs.Made.{IsMade, IsTold}
-use Rattle.cove_core.specs.Stepped.{IsBehind, IsLimit, IsStill, OnAhead, OnDid}
+use Rattle.cove_core.specs.Stepped.{IsFirstBehind, IsLimit, IfNoEntry, OnAhead, OnDid}
 use Rattle.cove_core.specs.declared.monitors.Mon.{Mon}
 use Rattle.cove_core.specs.declared.steps.Stepped.{Stepped}
 use Rattle.cove_core.specs.declared.steps.Stepped.TheVariants.{Did, Ahead, Limit}
@@ -204,9 +204,9 @@ guard_in held = Some (guard_of held)
 pub record HasLeft (script : ScriptValue) (table : TableId) (new : Mon) (state left : HartState) (before : HartPart) (now : PassValue) (stepped : Stepped) : Type 0 where
   pub after : IsAfter script table new (hart_value left) now
   pub entered : OnDid stepped (HasEntered (hart_value state) before (left_part (monitor_of now.part) (hart_of now.part)))
-  pub looked : IsStill stepped (HasLooked before (left_part (monitor_of now.part) (hart_of now.part)) × (left ≡ state))
+  pub looked : IfNoEntry stepped (HasLooked before (left_part (monitor_of now.part) (hart_of now.part)) × (left ≡ state))
   pub limit : IsLimit stepped → length (monitor_of now.part).history ≡ ENTRY_LIMIT
-  pub ahead : OnAhead stepped (λ other. IsBehind script (monitor_of now.part).history (hart_value left) other.0)
+  pub ahead : OnAhead stepped (λ other. IsFirstBehind script (monitor_of now.part).history (hart_value left) other.0)
   pub same_hart : left.hart.0 ≡ state.hart.0
 
 -- the history after no entry was made, where that is one with this limit or with another hart behind
@@ -224,10 +224,10 @@ module _ (script : ScriptValue) (table : TableId) (mon new : Mon) (state left : 
     history_is : mon.history ≡ (monitor_of now.part).history
     history_is = j.history ∙ sym (still_history script table mon (hart_value state) held now j table_is still.0.words still.0.clean still.0.guard before same_mine same_seen)
 
-    left_ahead : (other : ℕ) → IsBehind script mon.history (hart_value state) other → IsBehind script (monitor_of now.part).history (hart_value left) other
+    left_ahead : (other : ℕ) → IsFirstBehind script mon.history (hart_value state) other → IsFirstBehind script (monitor_of now.part).history (hart_value left) other
     left_ahead other behind =
-        subst (λ h. IsBehind script (monitor_of now.part).history (hart_value h) other) (sym still.2)
-        (subst (λ H. IsBehind script H (hart_value state) other) history_is behind)
+        subst (λ h. IsFirstBehind script (monitor_of now.part).history (hart_value h) other) (sym still.2)
+        (subst (λ H. IsFirstBehind script H (hart_value state) other) history_is behind)
 
     left_hart : left.hart.0 ≡ state.hart.0
     left_hart = ap (λ (h : HartState). h.hart.0) still.2
@@ -258,8 +258,8 @@ module _ (script : ScriptValue) (table : TableId) (mon new : Mon) (state left : 
       → OnDid stepped (λ _. clean_in now ≡ true)
       → OnDid stepped (λ _. left.walked ≡ None)
       → IsLimit stepped ↔ (ENTRY_LIMIT ≤ length mon.history)
-      → OnAhead stepped (λ other. IsBehind script mon.history (hart_value state) other.0)
-      → IsStill stepped (Unchanged words_in clean_in guard_in held now × (new ≡ mon) × (left ≡ state))
+      → OnAhead stepped (λ other. IsFirstBehind script mon.history (hart_value state) other.0)
+      → IfNoEntry stepped (Unchanged words_in clean_in guard_in held now × (new ≡ mon) × (left ≡ state))
       → HasLeft script table new state left before now stepped
   left_by (Did place) made entry guard clean used limit ahead still =
       left_did place (room (cases_lt (length mon.history) ENTRY_LIMIT)) entry.0 (slice_get new.history place) entry.1 made guard clean used

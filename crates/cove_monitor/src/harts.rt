@@ -7,7 +7,7 @@ ghost use Rattle.cove_base.specs.declared.limits.TheConstants.{ENTRY_LIMIT};
 ghost use Rattle.cove_base.specs.declared.walks.Target.{Target};
 ghost use Rattle.cove_board.specs.Passes.{AreDealt};
 ghost use Rattle.cove_core.specs.Reached.{IsPrepared};
-ghost use Rattle.cove_core.specs.Stepped.{IsBehind, IsLimit, IsStill, OnAhead, OnDid};
+ghost use Rattle.cove_core.specs.Stepped.{IsFirstBehind, IsLimit, IfNoEntry, OnAhead, OnDid};
 ghost use Rattle.cove_hart.specs.HartStates.{hart_value};
 ghost use Rattle.cove_hart.specs.Needs.{next_need};
 ghost use Rattle.cove_hart.specs.declared.needs.Need.TheVariants.{Event, Walk};
@@ -133,10 +133,10 @@ impl Hart {
         ensures hart { IsOf board.now.table script.now self.new }
         ensures keeper { IsKeeper board.now.table mon.new result.1 }
         ensures entered { OnDid result.0 (HasEntered self.old.held (part_of self.old) (part_of self.new)) }
-        ensures looked { IsStill result.0 (HasLooked (part_of self.old) (part_of self.new) × (self.new.held ≡ self.old.held)) }
+        ensures looked { IfNoEntry result.0 (HasLooked (part_of self.old) (part_of self.new) × (self.new.held ≡ self.old.held)) }
         ensures limit { IsLimit result.0 → length (part_of self.new).seen ≡ ENTRY_LIMIT }
         ensures full { IsTrue self.new.full ↔ IsLimit result.0 }
-        ensures ahead { OnAhead result.0 (λ other. IsBehind script.now (part_of self.new).seen self.new.held other.0) }
+        ensures ahead { OnAhead result.0 (λ other. IsFirstBehind script.now (part_of self.new).seen self.new.held other.0) }
         ensures same_hart { self.new.held.hart ≡ self.old.held.hart }
     {
         let Some(pass) = self.pass.take() else {

@@ -4,7 +4,7 @@ ghost use Rattle.std.specs.Prelude.{◌≡◌, ◌↔◌, ◌+◌, IsTrue, lengt
 ghost use Rattle.cove_base.specs.declared.limits.TheConstants.{ENTRY_LIMIT};
 ghost use Rattle.cove_base.specs.declared.walks.Target.{Target};
 ghost use Rattle.cove_core.specs.Reached.{IsPrepared};
-ghost use Rattle.cove_core.specs.Stepped.{IsBehind, IsLimit, IsStill, OnAhead, OnDid};
+ghost use Rattle.cove_core.specs.Stepped.{IsFirstBehind, IsLimit, IfNoEntry, OnAhead, OnDid};
 ghost use Rattle.cove_hart.specs.Needs.{next_need};
 ghost use Rattle.cove_hart.specs.declared.needs.Need.TheVariants.{Walk};
 ghost use Rattle.cove_monitor.specs.Events.{HasEntered, HasLooked, HasWalked};
@@ -60,10 +60,10 @@ impl<B: Room> Kept<B> {
         requires prepared { IsPrepared script.now hart.old.held }
         ensures hart { IsOf B.table script.now hart.new }
         ensures entered { OnDid result (HasEntered hart.old.held (part_of hart.old) (part_of hart.new)) }
-        ensures looked { IsStill result (HasLooked (part_of hart.old) (part_of hart.new) × (hart.new.held ≡ hart.old.held)) }
+        ensures looked { IfNoEntry result (HasLooked (part_of hart.old) (part_of hart.new) × (hart.new.held ≡ hart.old.held)) }
         ensures limit { IsLimit result → length (part_of hart.new).seen ≡ ENTRY_LIMIT }
         ensures full { IsTrue hart.new.full ↔ IsLimit result }
-        ensures ahead { OnAhead result (λ other. IsBehind script.now (part_of hart.new).seen hart.new.held other.0) }
+        ensures ahead { OnAhead result (λ other. IsFirstBehind script.now (part_of hart.new).seen hart.new.held other.0) }
         ensures same_hart { hart.new.held.hart ≡ hart.old.held.hart }
     {
         let Some(keeper) = self.pass.take() else {
@@ -122,10 +122,10 @@ impl<B: Room> Monitor<B> {
         requires prepared { IsPrepared script.now hart.old.held }
         ensures hart { IsOf B.table script.now hart.new }
         ensures entered { OnDid result (HasEntered hart.old.held (part_of hart.old) (part_of hart.new)) }
-        ensures looked { IsStill result (HasLooked (part_of hart.old) (part_of hart.new) × (hart.new.held ≡ hart.old.held)) }
+        ensures looked { IfNoEntry result (HasLooked (part_of hart.old) (part_of hart.new) × (hart.new.held ≡ hart.old.held)) }
         ensures limit { IsLimit result → length (part_of hart.new).seen ≡ ENTRY_LIMIT }
         ensures full { IsTrue hart.new.full ↔ IsLimit result }
-        ensures ahead { OnAhead result (λ other. IsBehind script.now (part_of hart.new).seen hart.new.held other.0) }
+        ensures ahead { OnAhead result (λ other. IsFirstBehind script.now (part_of hart.new).seen hart.new.held other.0) }
         ensures same_hart { hart.new.held.hart ≡ hart.old.held.hart }
     {
         let mut kept = self.kept.lock(rt);

@@ -8,21 +8,21 @@ use Rattle.std.proofs.lemmas.List.Edits.{get_or-remove_below, get_or-remove_abov
 use Rattle.std.proofs.lemmas.List.Folds.{Any-from_list_any, list_any-append, list_any_at}
 use Rattle.std.proofs.Math.Seq.{drop-cons}
 use Rattle.cove_region.specs.declared.areas.Area.{Area}
-use Rattle.cove_region.specs.GuestMaps.{has, holds, meets}
+use Rattle.cove_region.specs.GuestMaps.{has_guest, holds, meets}
 use Rattle.cove_region.specs.Rows.{AreDisjoint}
 
 -- ---- tests
 
-pub has_means : (g : ℕ) (a : Area) → has g a ≡ true → (a.first ≤ g) × (g < a.end)
+pub has_means : (g : ℕ) (a : Area) → has_guest g a ≡ true → (a.first ≤ g) × (g < a.end)
 has_means g a h = grind (arith, nat_tests)
 
-pub has_from : (g : ℕ) (a : Area) → a.first ≤ g → g < a.end → has g a ≡ true
+pub has_from : (g : ℕ) (a : Area) → a.first ≤ g → g < a.end → has_guest g a ≡ true
 has_from g a l h = grind (arith, nat_tests)
 
-pub has_not : (g : ℕ) (a : Area) → has g a ≡ false → (g < a.first) ⊎ (a.end ≤ g)
+pub has_not : (g : ℕ) (a : Area) → has_guest g a ≡ false → (g < a.first) ⊎ (a.end ≤ g)
 has_not g a h = grind (arith, nat_tests)
 
-pub has_none : (g : ℕ) (a : Area) → (g < a.first) ⊎ (a.end ≤ g) → has g a ≡ false
+pub has_none : (g : ℕ) (a : Area) → (g < a.first) ⊎ (a.end ≤ g) → has_guest g a ≡ false
 has_none g a h = grind (arith, nat_tests)
 
 pub holds_means : (p a : Area) → holds p a ≡ true → (a.first ≤ p.first) × (p.end ≤ a.end)

@@ -7,7 +7,7 @@ use Rattle.std.proofs.lemmas.Bool.Decides.{nat_tests}
 use Rattle.std.proofs.lemmas.List.{length-append}
 use Rattle.std.proofs.lemmas.List.Edits.{length-remove}
 use Rattle.cove_region.specs.declared.areas.Area.{Area}
-use Rattle.cove_region.specs.GuestMaps.{covers, has, holds}
+use Rattle.cove_region.specs.GuestMaps.{covers, has_guest, holds}
 use Rattle.cove_region.specs.Rows.{AreApart, AreRows, HasPages, part_after, part_before, rows_cut, rows_with}
 use Rattle.cove_region.proofs.AreaLemmas.{All-push, All-removed, has_means, has_none, holds_means, list_any-remove, some_place}
 use Rattle.cove_region.proofs.RowLemmas.{covers-push, flip_apart, rows_push, rows_without}
@@ -38,10 +38,10 @@ or_none : (a : Bool) → a ≡ (a || false)
 or_none true = refl
 or_none false = refl
 
-empty_has : (g : ℕ) (p : Area) → p.end ≤ p.first → has g p ≡ false
+empty_has : (g : ℕ) (p : Area) → p.end ≤ p.first → has_guest g p ≡ false
 empty_has g p none = elim (cases_lt g p.first) [ inl lt ↦ has_none g p (inl lt) | inr le ↦ has_none g p (inr (omega arith)) ]
 
-covers-with : (rows : List Area) (p : Area) (g : ℕ) → covers (rows_with rows p) g ≡ (covers rows g || has g p)
+covers-with : (rows : List Area) (p : Area) (g : ℕ) → covers (rows_with rows p) g ≡ (covers rows g || has_guest g p)
 covers-with rows p g =
     elim (cases_lt p.first p.end) [
       | inl some ↦ ap (λ xs. covers xs g) (with_some rows p some) ∙ covers-push rows p g
@@ -82,25 +82,25 @@ cut_rows rows place d pages lawful within held some =
     (λ k e below. apart_part row (part_after row pages) (get_or (remove rows place) k e) (apart k e below) (omega (arith, low, high, some)) (omega arith))
     (λ before. inr (omega (arith, some))))
 
-both_have : (g : ℕ) (a b : Area) → AreApart a b → has g a ≡ true → has g b ≡ true → ⊥
+both_have : (g : ℕ) (a b : Area) → AreApart a b → has_guest g a ≡ true → has_guest g b ≡ true → ⊥
 both_have g a b (inl lt) h h' = let m = has_means g a h in let m' = has_means g b h' in omega (arith, m.0, m.1, m'.0, m'.1)
 both_have g a b (inr lt) h h' = let m = has_means g a h in let m' = has_means g b h' in omega (arith, m.0, m.1, m'.0, m'.1)
 
 -- a page of the row that is taken out is in no other
-rest_free : (rows : List Area) (place : ℕ) (d : Area) (g : ℕ) → AreRows rows → place < length rows → has g (get_or rows place d) ≡ true
+rest_free : (rows : List Area) (place : ℕ) (d : Area) (g : ℕ) → AreRows rows → place < length rows → has_guest g (get_or rows place d) ≡ true
     → covers (remove rows place) g ≡ false
 rest_free rows place d g lawful within here =
     false_from_ne_true (covers (remove rows place) g) (λ there.
-    let other = some_place (has g) (remove rows place) there in
+    let other = some_place (has_guest g) (remove rows place) there in
     both_have g (get_or rows place d) (get_or (remove rows place) other.0 d)
     (All-removed AreApart flip_apart rows place d within lawful.apart other.0 d other.1) here (other.2 d))
 
-part_has : (g : ℕ) (row pages : Area) → row.first ≤ pages.first → pages.end ≤ row.end → pages.first < pages.end → has g pages ≡ true
-    → (has g row ≡ true) × (has g (part_before row pages) ≡ false) × (has g (part_after row pages) ≡ false)
+part_has : (g : ℕ) (row pages : Area) → row.first ≤ pages.first → pages.end ≤ row.end → pages.first < pages.end → has_guest g pages ≡ true
+    → (has_guest g row ≡ true) × (has_guest g (part_before row pages) ≡ false) × (has_guest g (part_after row pages) ≡ false)
 part_has g row pages low high some here = (grind (arith, nat_tests), grind (arith, nat_tests), grind (arith, nat_tests))
 
-part_has_not : (g : ℕ) (row pages : Area) → row.first ≤ pages.first → pages.end ≤ row.end → pages.first < pages.end → has g pages ≡ false
-    → has g row ≡ (has g (part_before row pages) || has g (part_after row pages))
+part_has_not : (g : ℕ) (row pages : Area) → row.first ≤ pages.first → pages.end ≤ row.end → pages.first < pages.end → has_guest g pages ≡ false
+    → has_guest g row ≡ (has_guest g (part_before row pages) || has_guest g (part_after row pages))
 part_has_not g row pages low high some here = grind (arith, nat_tests)
 
 cut_in : (a b c h w : Bool) → h ≡ true → a ≡ false → b ≡ false → c ≡ false → ((a || b) || c) ≡ (w && not h)
@@ -110,21 +110,21 @@ cut_out : (a b c h w r : Bool) → h ≡ false → r ≡ (b || c) → w ≡ (r |
 cut_out a b c h w r out row whole = grind arith
 
 pub covers-cut : (rows : List Area) (place : ℕ) (d pages : Area) → AreRows rows → place < length rows → holds pages (get_or rows place d) ≡ true
-    → HasPages pages → (g : ℕ) → covers (rows_cut rows place (get_or rows place d) pages) g ≡ (covers rows g && not (has g pages))
+    → HasPages pages → (g : ℕ) → covers (rows_cut rows place (get_or rows place d) pages) g ≡ (covers rows g && not (has_guest g pages))
 covers-cut rows place d pages lawful within held some g =
     let row : Area = get_or rows place d in
     let bounds = holds_means pages row held in
     let rest = remove rows place in
     covers-with (rows_with rest (part_before row pages)) (part_after row pages) g
-    ∙ ap (λ b. b || has g (part_after row pages)) (covers-with rest (part_before row pages) g)
-    ∙ elim (cases_Bool (has g pages)) [
+    ∙ ap (λ b. b || has_guest g (part_after row pages)) (covers-with rest (part_before row pages) g)
+    ∙ elim (cases_Bool (has_guest g pages)) [
       | inl here ↦
           let m = part_has g row pages bounds.0 bounds.1 some here in
-          cut_in (covers rest g) (has g (part_before row pages)) (has g (part_after row pages)) (has g pages) (covers rows g) here
+          cut_in (covers rest g) (has_guest g (part_before row pages)) (has_guest g (part_after row pages)) (has_guest g pages) (covers rows g) here
           (rest_free rows place d g lawful within m.0) m.1 m.2
       | inr out ↦
-          cut_out (covers rest g) (has g (part_before row pages)) (has g (part_after row pages)) (has g pages) (covers rows g) (has g row) out
-          (part_has_not g row pages bounds.0 bounds.1 some out) (list_any-remove (has g) rows place d within)
+          cut_out (covers rest g) (has_guest g (part_before row pages)) (has_guest g (part_after row pages)) (has_guest g pages) (covers rows g) (has_guest g row) out
+          (part_has_not g row pages bounds.0 bounds.1 some out) (list_any-remove (has_guest g) rows place d within)
     ]
 
 -- ---- how many rows are left

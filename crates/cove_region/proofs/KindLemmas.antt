@@ -11,7 +11,7 @@ use Rattle.cove_base.specs.declared.limits.TheConstants.{REGION_LIMIT, SHARED_RU
 use Rattle.cove_region.specs.declared.areas.Area.{Area}
 use Rattle.cove_region.specs.declared.kinds.AreaKind.{AreaKind}
 use Rattle.cove_region.specs.declared.kinds.AreaKind.TheVariants.{Outside, Private, Shared}
-use Rattle.cove_region.specs.GuestMaps.{AreAll, AreMade, AreOfOneRegion, FormTooManyRows, covers, has, holds, meets, shared_with, shared_without}
+use Rattle.cove_region.specs.GuestMaps.{AreAll, AreMade, AreOfOneRegion, FormTooManyRows, covers, has_guest, holds, meets, shared_with, shared_without}
 use Rattle.cove_region.specs.Rows.{AreApart, AreDisjoint, AreKept, AreRows, HasPages, adjoin, begins_at, ends_at, rows_cut}
 use Rattle.cove_region.proofs.AreaLemmas.{All-push, all_fail, has_from, has_means, holds_means, meets_means, some_place}
 use Rattle.cove_region.proofs.RowLemmas.{covers-push, few_enough, form_rows, form_same, free_rows, joins_none_after, joins_none_before, rows_apart, rows_push}
@@ -19,27 +19,27 @@ use Rattle.cove_region.proofs.CutLemmas.{covers-cut, cut_full, cut_rows}
 
 -- ---- pages of areas that are free of them, hold them, or have one of them
 
-apart_page : (g : ℕ) (p a : Area) → AreDisjoint p a → has g p ≡ true → has g a ≡ true → ⊥
+apart_page : (g : ℕ) (p a : Area) → AreDisjoint p a → has_guest g p ≡ true → has_guest g a ≡ true → ⊥
 apart_page g p a (inl le) h h' = let m = has_means g p h in let m' = has_means g a h' in omega (arith, m.0, m.1, m'.0, m'.1)
 apart_page g p a (inr le) h h' = let m = has_means g p h in let m' = has_means g a h' in omega (arith, m.0, m.1, m'.0, m'.1)
 
-pub free_page : (pages : Area) (areas : List Area) (g : ℕ) → list_any (meets pages) areas ≡ false → has g pages ≡ true → covers areas g ≡ false
+pub free_page : (pages : Area) (areas : List Area) (g : ℕ) → list_any (meets pages) areas ≡ false → has_guest g pages ≡ true → covers areas g ≡ false
 free_page pages areas g free here =
     let d : Area = record { first = 0; end = 0 } in
     false_from_ne_true (covers areas g) (λ there.
-    let found = some_place (has g) areas there in
+    let found = some_place (has_guest g) areas there in
     apart_page g pages (get_or areas found.0 d) (free_rows pages areas free found.0 d found.1) here (found.2 d))
 
-held_by : (pages a : Area) (g : ℕ) → holds pages a ≡ true → has g pages ≡ true → has g a ≡ true
+held_by : (pages a : Area) (g : ℕ) → holds pages a ≡ true → has_guest g pages ≡ true → has_guest g a ≡ true
 held_by pages a g held here = let b = holds_means pages a held in let m = has_means g pages here in has_from g a (omega (arith, b.0, m.0)) (omega (arith, b.1, m.1))
 
-pub held_page : (pages : Area) (areas : List Area) (g : ℕ) → list_any (holds pages) areas ≡ true → has g pages ≡ true → covers areas g ≡ true
+pub held_page : (pages : Area) (areas : List Area) (g : ℕ) → list_any (holds pages) areas ≡ true → has_guest g pages ≡ true → covers areas g ≡ true
 held_page pages areas g held here =
     let d : Area = record { first = 0; end = 0 } in
     let found = some_place (holds pages) areas held in
-    list_any_at (has g) areas found.0 d found.1 (held_by pages (get_or areas found.0 d) g (found.2 d) here)
+    list_any_at (has_guest g) areas found.0 d found.1 (held_by pages (get_or areas found.0 d) g (found.2 d) here)
 
-shared_page : (p a : Area) → HasPages p → HasPages a → meets p a ≡ true → (g : ℕ) × (has g p ≡ true) × (has g a ≡ true)
+shared_page : (p a : Area) → HasPages p → HasPages a → meets p a ≡ true → (g : ℕ) × (has_guest g p ≡ true) × (has_guest g a ≡ true)
 shared_page p a some some' met =
     let m = meets_means p a met in
     elim (cases_lt p.first a.first) [
@@ -48,12 +48,12 @@ shared_page p a some some' met =
     ]
 
 pub met_page : (pages : Area) (areas : List Area) → HasPages pages → All HasPages areas → list_any (meets pages) areas ≡ true
-    → (g : ℕ) × (has g pages ≡ true) × (covers areas g ≡ true)
+    → (g : ℕ) × (has_guest g pages ≡ true) × (covers areas g ≡ true)
 met_page pages areas some all met =
     let d : Area = record { first = 0; end = 0 } in
     let found = some_place (meets pages) areas met in
     let page = shared_page pages (get_or areas found.0 d) some (all found.0 d found.1) (found.2 d) in
-    (page.0, page.1, list_any_at (has page.0) areas found.0 d found.1 page.2)
+    (page.0, page.1, list_any_at (has_guest page.0) areas found.0 d found.1 page.2)
 
 -- ---- kinds as two tests: in a row, in a region
 
@@ -154,7 +154,7 @@ pub add_made : (regions rows : List Area) (pages : Area) → AreKept regions row
     → AreMade Private pages (record { regions = regions; rows = rows }) (record { regions = regions ++ pages ∷ []; rows = rows })
 unfolding kind
 add_made regions rows pages kept free g =
-    kinds_added (has g pages) (covers rows g) (covers regions g) (covers (regions ++ pages ∷ []) g) (covers-push regions pages g)
+    kinds_added (has_guest g pages) (covers rows g) (covers regions g) (covers (regions ++ pages ∷ []) g) (covers-push regions pages g)
     (λ here. no_row regions rows g kept (free_page pages regions g free here))
 
 pub add_kept : (regions rows : List Area) (pages : Area) → AreKept regions rows → HasPages pages → list_any (meets pages) regions ≡ false
@@ -165,7 +165,7 @@ add_kept regions rows pages kept some free room = record {
   some = All-push HasPages regions pages kept.some some;
   disjoint = all_pairs_push AreDisjoint regions pages kept.disjoint (λ k d below. flip_disjoint pages (get_or regions k d) (free_rows pages regions free k d below));
   maximal = kept.maximal;
-  inside = λ g here. covers-push regions pages g ∙ or_left (covers regions g) (has g pages) (kept.inside g here);
+  inside = λ g here. covers-push regions pages g ∙ or_left (covers regions g) (has_guest g pages) (kept.inside g here);
 }
   where
     flip_disjoint : (a b : Area) → AreDisjoint a b → AreDisjoint b a
@@ -189,23 +189,23 @@ share_taken regions rows pages kept some met all =
     let page = met_page pages rows some kept.maximal.some met in
     both_ways (covers rows page.0) (private_means (covers rows page.0) (covers regions page.0) (all.kinds page.0 page.1)) page.2
 
-pub share_made : (regions rows new : List Area) (pages : Area) → ((g : ℕ) → covers new g ≡ (covers rows g || has g pages))
+pub share_made : (regions rows new : List Area) (pages : Area) → ((g : ℕ) → covers new g ≡ (covers rows g || has_guest g pages))
     → AreMade Shared pages (record { regions = regions; rows = rows }) (record { regions = regions; rows = new })
 unfolding kind
-share_made regions rows new pages joined g = kinds_shared (has g pages) (covers rows g) (covers regions g) (covers new g) (joined g)
+share_made regions rows new pages joined g = kinds_shared (has_guest g pages) (covers rows g) (covers regions g) (covers new g) (joined g)
 
 pub share_kept : (regions rows new : List Area) (pages : Area) → AreKept regions rows → list_any (holds pages) regions ≡ true → AreRows new
-    → length new ≤ SHARED_RUN_LIMIT → ((g : ℕ) → covers new g ≡ (covers rows g || has g pages)) → AreKept regions new
+    → length new ≤ SHARED_RUN_LIMIT → ((g : ℕ) → covers new g ≡ (covers rows g || has_guest g pages)) → AreKept regions new
 share_kept regions rows new pages kept held lawful few joined = record {
   few_regions = kept.few_regions;
   few_rows = few;
   some = kept.some;
   disjoint = kept.disjoint;
   maximal = lawful;
-  inside = λ g here. within g (covers rows g) (has g pages) refl refl (sym (joined g) ∙ here);
+  inside = λ g here. within g (covers rows g) (has_guest g pages) refl refl (sym (joined g) ∙ here);
 }
   where
-    within : (g : ℕ) (s h : Bool) → covers rows g ≡ s → has g pages ≡ h → (s || h) ≡ true → covers regions g ≡ true
+    within : (g : ℕ) (s h : Bool) → covers rows g ≡ s → has_guest g pages ≡ h → (s || h) ≡ true → covers regions g ≡ true
     within g true h row page either = kept.inside g row
     within g false true row page either = held_page pages regions g held page
     within g false false row page either = absurd (both_ways false refl either)
@@ -223,7 +223,7 @@ share_full regions rows pages kept some free alone full =
     )
 
 pub share_few : (regions rows new : List Area) (pages : Area) → AreRows new → length new ≤ SHARED_RUN_LIMIT
-    → ((g : ℕ) → covers new g ≡ (covers rows g || has g pages)) → FormTooManyRows (shared_with (record { regions = regions; rows = rows }) pages) → ⊥
+    → ((g : ℕ) → covers new g ≡ (covers rows g || has_guest g pages)) → FormTooManyRows (shared_with (record { regions = regions; rows = rows }) pages) → ⊥
 share_few regions rows new pages lawful few joined =
     few_enough (shared_with (record { regions = regions; rows = rows }) pages) (length new)
     (form_same (covers new) (shared_with (record { regions = regions; rows = rows }) pages) (length new) joined (form_rows new lawful)) few
@@ -235,13 +235,13 @@ pub unshare_inside : (regions rows : List Area) (place : ℕ) (d pages : Area) �
 unfolding kind
 unshare_inside regions rows place d pages held within here = record {
   region = held;
-  kinds = λ g page. is_shared (covers rows g) (covers regions g) (list_any_at (has g) rows place d within (held_by pages (get_or rows place d) g here page));
+  kinds = λ g page. is_shared (covers rows g) (covers regions g) (list_any_at (has_guest g) rows place d within (held_by pages (get_or rows place d) g here page));
 }
 
-not_held : (p a : Area) → holds p a ≡ false → has p.first a ≡ true → a.end < p.end
+not_held : (p a : Area) → holds p a ≡ false → has_guest p.first a ≡ true → a.end < p.end
 not_held p a none first = let m = has_means p.first a first in grind (arith, nat_tests)
 
-past_end : (a b : Area) → AreApart a b → has a.end b ≡ true → HasPages a → ⊥
+past_end : (a b : Area) → AreApart a b → has_guest a.end b ≡ true → HasPages a → ⊥
 past_end a b (inl lt) h some = let m = has_means a.end b h in omega (arith, m.0, m.1, some)
 past_end a b (inr lt) h some = let m = has_means a.end b h in omega (arith, m.0, m.1, some)
 
@@ -252,33 +252,33 @@ unfolding kind
 unshare_outside regions rows pages kept some none all =
     let d : Area = record { first = 0; end = 0 } in
     let first = shared_means (covers rows pages.first) (covers regions pages.first) (all.kinds pages.first (has_from pages.first pages (omega arith) some)) in
-    let one = some_place (has pages.first) rows first in
+    let one = some_place (has_guest pages.first) rows first in
     let a : Area = get_or rows one.0 d in
     let m = has_means pages.first a (one.2 d) in
     let short : a.end < pages.end = not_held pages a (all_fail (holds pages) rows none one.0 d one.1) (one.2 d) in
     let next = shared_means (covers rows a.end) (covers regions a.end) (all.kinds a.end (has_from a.end pages (omega (arith, m.1)) short)) in
-    let two = some_place (has a.end) rows next in
+    let two = some_place (has_guest a.end) rows next in
     elim (rows_apart rows one.0 two.0 d kept.maximal.apart one.1 two.1) [
-      | inl same ↦ let end = has_means a.end a (subst (λ i. has a.end (get_or rows i d) ≡ true) (sym same) (two.2 d)) in omega (arith, end.1)
+      | inl same ↦ let end = has_means a.end a (subst (λ i. has_guest a.end (get_or rows i d) ≡ true) (sym same) (two.2 d)) in omega (arith, end.1)
       | inr apart ↦ past_end a (get_or rows two.0 d) apart (two.2 d) (kept.maximal.some one.0 d one.1)
     ]
 
 pub unshare_made : (regions rows new : List Area) (pages : Area) → list_any (holds pages) regions ≡ true
-    → ((g : ℕ) → covers new g ≡ (covers rows g && not (has g pages)))
+    → ((g : ℕ) → covers new g ≡ (covers rows g && not (has_guest g pages)))
     → AreMade Private pages (record { regions = regions; rows = rows }) (record { regions = regions; rows = new })
 unfolding kind
 unshare_made regions rows new pages held cut g =
-    kinds_unshared (has g pages) (covers rows g) (covers regions g) (covers new g) (cut g) (held_page pages regions g held)
+    kinds_unshared (has_guest g pages) (covers rows g) (covers regions g) (covers new g) (cut g) (held_page pages regions g held)
 
 pub unshare_kept : (regions rows new : List Area) (pages : Area) → AreKept regions rows → AreRows new → length new ≤ SHARED_RUN_LIMIT
-    → ((g : ℕ) → covers new g ≡ (covers rows g && not (has g pages))) → AreKept regions new
+    → ((g : ℕ) → covers new g ≡ (covers rows g && not (has_guest g pages))) → AreKept regions new
 unshare_kept regions rows new pages kept lawful few cut = record {
   few_regions = kept.few_regions;
   few_rows = few;
   some = kept.some;
   disjoint = kept.disjoint;
   maximal = lawful;
-  inside = λ g here. kept.inside g (was (covers rows g) (has g pages) (sym (cut g) ∙ here));
+  inside = λ g here. kept.inside g (was (covers rows g) (has_guest g pages) (sym (cut g) ∙ here));
 }
   where
     was : (s h : Bool) → (s && not h) ≡ true → s ≡ true
@@ -298,7 +298,7 @@ unshare_full regions rows place d pages kept some within held full before after 
     )
 
 pub unshare_few : (regions rows new : List Area) (pages : Area) → AreRows new → length new ≤ SHARED_RUN_LIMIT
-    → ((g : ℕ) → covers new g ≡ (covers rows g && not (has g pages))) → FormTooManyRows (shared_without (record { regions = regions; rows = rows }) pages) → ⊥
+    → ((g : ℕ) → covers new g ≡ (covers rows g && not (has_guest g pages))) → FormTooManyRows (shared_without (record { regions = regions; rows = rows }) pages) → ⊥
 unshare_few regions rows new pages lawful few cut =
     few_enough (shared_without (record { regions = regions; rows = rows }) pages) (length new)
     (form_same (covers new) (shared_without (record { regions = regions; rows = rows }) pages) (length new) cut (form_rows new lawful)) few

@@ -7,7 +7,7 @@ use Rattle.std.proofs.lemmas.Map.Views.{any-filter_same}
 use Rattle.cove_model.specs.GuestPages.{row_count}
 use Rattle.cove_model.specs.Orderly.{AreDistinct}
 use Rattle.cove_model.specs.Owners as owners
-use Rattle.cove_region.specs.GuestMaps.{FormRows, has, pages_from}
+use Rattle.cove_region.specs.GuestMaps.{FormRows, has_guest, pages_from}
 use Rattle.cove_region.proofs.AreaLemmas.{has_from, has_means}
 use Rattle.cove_region.proofs.RowLemmas.{bool_iff}
 
@@ -57,9 +57,9 @@ range-holds a (suc n) g low high =
       | inr le ↦ or_left (eqb a g) (owners.has g (range_with_len (a + 1) n)) (eq-eqb a g (omega arith))
     ]
 
-pub has-range : (a n g : ℕ) → owners.has g (range_with_len a n) ≡ has g (pages_from a n)
+pub has-range : (a n g : ℕ) → owners.has g (range_with_len a n) ≡ has_guest g (pages_from a n)
 has-range a n g =
-    bool_iff (owners.has g (range_with_len a n)) (has g (pages_from a n))
+    bool_iff (owners.has g (range_with_len a n)) (has_guest g (pages_from a n))
     (λ there. let r = range-bounds a n g there in has_from g (pages_from a n) r.0 r.1)
     (λ there. let m = has_means g (pages_from a n) there in range-holds a n g m.0 m.1)
 

@@ -12,7 +12,7 @@ use Rattle.std.proofs.lemmas.Map.Keys.{IsDistinct-from_apart}
 use Rattle.std.proofs.lemmas.Map.Made.{length-from_same_keys}
 use Rattle.cove_base.specs.declared.limits.TheConstants.{SHARED_RUN_LIMIT}
 use Rattle.cove_region.specs.declared.areas.Area.{Area}
-use Rattle.cove_region.specs.GuestMaps.{FormRows, FormTooManyRows, begins, covers, has, meets}
+use Rattle.cove_region.specs.GuestMaps.{FormRows, FormTooManyRows, begins, covers, has_guest, meets}
 use Rattle.cove_region.specs.Rows.{AreApart, AreApartBefore, AreDisjoint, AreRows, HasPages, JoinsAfter, JoinsBefore, begins_at, ends_at}
 use Rattle.cove_region.proofs.AreaLemmas.{All-push, All-remove, All-removed, all_fail, has_from, has_means, list_any-remove, meets_not, some_place}
 
@@ -43,7 +43,7 @@ apart_firsts a b some some' (inl lt) same = omega arith
 apart_firsts a b some some' (inr lt) same = omega arith
 
 -- a page that comes after a row's page is its first, if it begins a row
-begins_first : (g : ℕ) (a b : Area) → g ≡ a.first → g ≢ 0 → HasPages a → HasPages b → AreApart a b → has (g - 1) b ≡ true → ⊥
+begins_first : (g : ℕ) (a b : Area) → g ≡ a.first → g ≢ 0 → HasPages a → HasPages b → AreApart a b → has_guest (g - 1) b ≡ true → ⊥
 begins_first g a b first some pages pages' (inl lt) before = let m = has_means (g - 1) b before in omega (arith, m.0, m.1)
 begins_first g a b first some pages pages' (inr lt) before = let m = has_means (g - 1) b before in omega (arith, m.0, m.1)
 
@@ -54,15 +54,15 @@ begins_from rows lawful g found =
     let k = place.0 in
     let first : g ≡ (get_or rows k d).first = eqb-true g _ (place.2 d) in
     let some : HasPages (get_or rows k d) = lawful.some k d place.1 in
-    let here : covers rows g ≡ true = list_any_at (has g) rows k d place.1 (has_from g (get_or rows k d) (omega (arith, first)) (omega (arith, first, some))) in
+    let here : covers rows g ≡ true = list_any_at (has_guest g) rows k d place.1 (has_from g (get_or rows k d) (omega (arith, first)) (omega (arith, first, some))) in
     and_from (covers rows g) (g == 0 || not (covers rows (g - 1))) here (elim (cases_eq g 0) [
       | inl zero_page ↦ or_left (g == 0) (not (covers rows (g - 1))) (eq-eqb g 0 zero_page)
       | inr later ↦ or_right (g == 0) (not (covers rows (g - 1))) (not_from_false (covers rows (g - 1)) (false_from_ne_true (covers rows (g - 1)) (λ before.
-          let other = some_place (has (g - 1)) rows before in
+          let other = some_place (has_guest (g - 1)) rows before in
           let j = other.0 in
           let pages = lawful.some j d other.1 in
           elim (rows_apart rows k j d lawful.apart place.1 other.1) [
-            | inl same ↦ let m = has_means (g - 1) (get_or rows k d) (subst (λ i. has (g - 1) (get_or rows i d) ≡ true) (sym same) (other.2 d)) in omega (arith, m.0, first, later)
+            | inl same ↦ let m = has_means (g - 1) (get_or rows k d) (subst (λ i. has_guest (g - 1) (get_or rows i d) ≡ true) (sym same) (other.2 d)) in omega (arith, m.0, first, later)
             | inr apart ↦ begins_first g (get_or rows k d) (get_or rows j d) first later some pages apart (other.2 d)
           ])))
     ])
@@ -71,13 +71,13 @@ begins_to : (rows : List Area) → (g : ℕ) → begins (covers rows) g ≡ true
 begins_to rows g begun =
     let d : Area = record { first = 0; end = 0 } in
     let parts = and_parts (covers rows g) (g == 0 || not (covers rows (g - 1))) begun in
-    let place = some_place (has g) rows parts.0 in
+    let place = some_place (has_guest g) rows parts.0 in
     let k = place.0 in
     let m = has_means g (get_or rows k d) (place.2 d) in
     elim (cases_eq g (get_or rows k d).first) [
       | inl first ↦ list_any_at (λ r. eqb g r.first) rows k d place.1 (eq-eqb g _ first)
       | inr later ↦
-          let before : covers rows (g - 1) ≡ true = list_any_at (has (g - 1)) rows k d place.1 (has_from (g - 1) (get_or rows k d) (omega (arith, m.0, later)) (omega (arith, m.1))) in
+          let before : covers rows (g - 1) ≡ true = list_any_at (has_guest (g - 1)) rows k d place.1 (has_from (g - 1) (get_or rows k d) (omega (arith, m.0, later)) (omega (arith, m.1))) in
           elim (or_cases (g == 0) (not (covers rows (g - 1))) parts.1) [
             | inl zero_page ↦ let z = eqb-true g 0 zero_page in absurd (later (omega (arith, m.0, z)))
             | inr free ↦ absurd (both_ways (covers rows (g - 1)) (not-true (covers rows (g - 1)) free) before)
@@ -132,7 +132,7 @@ position_none p xs h = false_from_ne_true (list_any p xs) (λ some. let less = p
 
 -- ---- pages that are joined to rows
 
-has_joined : (g : ℕ) (a p : Area) → HasPages a → HasPages p → a.end ≡ p.first → has g (record { first = a.first; end = p.end }) ≡ (has g a || has g p)
+has_joined : (g : ℕ) (a p : Area) → HasPages a → HasPages p → a.end ≡ p.first → has_guest g (record { first = a.first; end = p.end }) ≡ (has_guest g a || has_guest g p)
 has_joined g a p some some' meet = grind (arith, nat_tests)
 
 or_shift : (a b c : Bool) → (c || (a || b)) ≡ ((a || c) || b)
@@ -193,8 +193,8 @@ joins_before rows pages place d lawful some free within meet =
       end = refl;
       together = λ g.
           ap (λ b. covers (remove rows place) g || b) (has_joined g row pages pages_of_row some meet)
-          ∙ or_shift (has g row) (has g pages) (covers (remove rows place) g)
-          ∙ ap (λ b. b || has g pages) (sym (list_any-remove (has g) rows place d within));
+          ∙ or_shift (has_guest g row) (has_guest g pages) (covers (remove rows place) g)
+          ∙ ap (λ b. b || has_guest g pages) (sym (list_any-remove (has_guest g) rows place d within));
       apart = λ k e below. apart_before_joined row pages (get_or (remove rows place) k e)
           (All-removed AreApart flip_apart rows place d within lawful.apart k e below)
           (All-remove (AreDisjoint pages) rows place within (free_rows pages rows free) k e below)
@@ -228,8 +228,8 @@ joins_after rows pages place d lawful some before within meet =
       some = omega (arith, pages_of_row, meet, some);
       together = λ g.
           ap (λ b. covers (remove rows place) g || b) (has_joined g pages row some pages_of_row (sym meet))
-          ∙ or_turn (has g row) (has g pages) (covers (remove rows place) g)
-          ∙ ap (λ b. b || has g pages) (sym (list_any-remove (has g) rows place d within));
+          ∙ or_turn (has_guest g row) (has_guest g pages) (covers (remove rows place) g)
+          ∙ ap (λ b. b || has_guest g pages) (sym (list_any-remove (has_guest g) rows place d within));
       apart = λ k e below. apart_joined row pages (get_or (remove rows place) k e)
           (All-removed AreApart flip_apart rows place d within lawful.apart k e below)
           (All-remove (AreApartBefore pages) rows place within before k e below)
@@ -261,5 +261,5 @@ or_end true b = refl
 or_end false true = refl
 or_end false false = refl
 
-pub covers-push : (rows : List Area) (p : Area) (g : ℕ) → covers (rows ++ p ∷ []) g ≡ (covers rows g || has g p)
-covers-push rows p g = list_any-append (has g) rows (p ∷ []) ∙ or_end (covers rows g) (has g p)
+pub covers-push : (rows : List Area) (p : Area) (g : ℕ) → covers (rows ++ p ∷ []) g ≡ (covers rows g || has_guest g p)
+covers-push rows p g = list_any-append (has_guest g) rows (p ∷ []) ∙ or_end (covers rows g) (has_guest g p)

@@ -7,7 +7,7 @@ use Rattle.cove_region.proofs.CutLemmas.{covers-cut, cut_rows}
 use Rattle.cove_region.proofs.JoinLemmas.{carried}
 use Rattle.cove_region.proofs.KindLemmas.{share_few, share_full, share_inside, share_taken, unshare_few, unshare_full, unshare_inside, unshare_kept, unshare_made, unshare_outside}
 use Rattle.cove_region.proofs.RowLemmas.{position_none}
-use Rattle.cove_region.specs.GuestMaps.{AreMade, AreOfOneRegion, FormTooManyRows, GuestMap, covers, has, holds, meets, shared_with, shared_without}
+use Rattle.cove_region.specs.GuestMaps.{AreMade, AreOfOneRegion, FormTooManyRows, GuestMap, covers, has_guest, holds, meets, shared_with, shared_without}
 use Rattle.cove_region.specs.Rows.{AreKept, AreRows, HasPages, adjoin, rows_cut}
 use Rattle.cove_region.specs.declared.areas.Area.{Area}
 use Rattle.cove_region.specs.declared.kinds.AreaKind.TheVariants.{Private, Shared}
@@ -37,7 +37,7 @@ module _ (pages : Area) {asked : Area} {regions rows : List Area} {view : GuestM
   pub were_taken : AreKept regions rows → HasPages asked → list_any (meets pages) rows ≡ true → AreOfOneRegion view Private asked → ⊥
   were_taken kept some met = tells (λ m p. AreOfOneRegion m Private p → ⊥) (share_taken regions rows pages kept (has_pages some) met)
 
-  pub few_with : (new : List Area) → AreRows new → length new ≤ SHARED_RUN_LIMIT → ((g : ℕ) → covers new g ≡ (covers rows g || has g pages))
+  pub few_with : (new : List Area) → AreRows new → length new ≤ SHARED_RUN_LIMIT → ((g : ℕ) → covers new g ≡ (covers rows g || has_guest g pages))
       → FormTooManyRows (shared_with view asked) → ⊥
   few_with new lawful few joined = tells (λ m p. FormTooManyRows (shared_with m p) → ⊥) (share_few regions rows new pages lawful few joined)
 
@@ -67,7 +67,7 @@ module _ (pages : Area) {asked : Area} {regions rows : List Area} {view : GuestM
             let hit = position-Some (holds pages) rows place pages found in
             subst AreRows (sym cut) (cut_rows rows place pages pages kept.maximal hit.0 hit.1 (has_pages some))
 
-        cut_covers : (g : ℕ) → covers new g ≡ (covers rows g && not (has g pages))
+        cut_covers : (g : ℕ) → covers new g ≡ (covers rows g && not (has_guest g pages))
         cut_covers g =
             let hit = position-Some (holds pages) rows place pages found in
             ap (λ xs. covers xs g) cut ∙ covers-cut rows place pages pages kept.maximal hit.0 hit.1 (has_pages some) g

@@ -13,7 +13,7 @@ use Rattle.cove_model.specs.Tvms.{Area as ModelArea, Tvm}
 use Rattle.cove_region.specs.declared.areas.Area.{Area}
 use Rattle.cove_region.specs.declared.kinds.AreaKind.{AreaKind}
 use Rattle.cove_region.specs.declared.kinds.AreaKind.TheVariants.{Outside, Private, Shared}
-use Rattle.cove_region.specs.GuestMaps.{AreAll, AreMade, AreOfOneRegion, FormRows, FormTooManyRows, GuestMap, covers, has, holds, is_shared, kind_of, meets, pages_from, shared_with, shared_without}
+use Rattle.cove_region.specs.GuestMaps.{AreAll, AreMade, AreOfOneRegion, FormRows, FormTooManyRows, GuestMap, covers, has_guest, holds, is_shared, kind_of, meets, pages_from, shared_with, shared_without}
 use Rattle.cove_region.specs.Rows.{HasPages}
 use Rattle.cove_region.specs.Standing.{AddedStand, AllPrivateAgrees, AllSharedAgrees, NoneStand, OutsideAgrees, OverlapAgrees, PrivateAgrees, RowsAgree, RowsWithAgree, RowsWithoutAgree, SharedAgrees, SharedStand, StandFor, UnsharedStand, area_of, pages_at}
 use Rattle.cove_region.proofs.AreaLemmas.{All-push, has_from, has_means}
@@ -27,11 +27,11 @@ any-areas : (p : ModelArea → Bool) (q : Area → Bool) → ((a : ModelArea) �
 any-areas p q same [] = refl
 any-areas p q same (a ∷ areas) = ap (λ b. b || list_any q (map area_of areas)) (same a) ∙ ap (λ b. p a || b) (any-areas p q same areas)
 
-has-area : (g : ℕ) (a : ModelArea) → has g (area_of a) ≡ model.holds g 1 a
+has-area : (g : ℕ) (a : ModelArea) → has_guest g (area_of a) ≡ model.holds g 1 a
 has-area g a = grind (arith, nat_tests)
 
 covers-stand : (guests : GuestMap) (tvm : Tvm) → StandFor guests tvm → (g : ℕ) → covers guests.regions g ≡ list_any (model.holds g 1) tvm.regions
-covers-stand guests tvm s g = ap (λ areas. covers areas g) s.regions ∙ any-areas (model.holds g 1) (has g) (has-area g) tvm.regions
+covers-stand guests tvm s g = ap (λ areas. covers areas g) s.regions ∙ any-areas (model.holds g 1) (has_guest g) (has-area g) tvm.regions
 
 pub meets-stand : (guests : GuestMap) (tvm : Tvm) → StandFor guests tvm → (first n : ℕ) → list_any (meets (pages_from first n)) guests.regions ≡ list_any (model.meets first n) tvm.regions
 meets-stand guests tvm s first n =
@@ -134,12 +134,12 @@ too-many shared n form = (
 -- the guest pages that are shared then
 has-with : (guests : GuestMap) (tvm : Tvm) → StandFor guests tvm → (gpa n g : ℕ) → shared_with guests (pages_at gpa n) g ≡ owners.has g (model.shared_with tvm gpa n)
 has-with guests tvm s gpa n g =
-    ap (λ b. b || has g (pages_at gpa n)) (s.shared g) ∙ ap (λ b. owners.has g tvm.shared || b) (sym (has-range (gpa / 4096) n g))
+    ap (λ b. b || has_guest g (pages_at gpa n)) (s.shared g) ∙ ap (λ b. owners.has g tvm.shared || b) (sym (has-range (gpa / 4096) n g))
     ∙ sym (has-append g tvm.shared (model.guests gpa n))
 
 has-without : (guests : GuestMap) (tvm : Tvm) → StandFor guests tvm → (gpa n g : ℕ) → shared_without guests (pages_at gpa n) g ≡ owners.has g (model.shared_without tvm gpa n)
 has-without guests tvm s gpa n g =
-    ap (λ b. b && not (has g (pages_at gpa n))) (s.shared g) ∙ sym (has-filter (λ k. not (model.is_among gpa n k)) g tvm.shared)
+    ap (λ b. b && not (has_guest g (pages_at gpa n))) (s.shared g) ∙ sym (has-filter (λ k. not (model.is_among gpa n k)) g tvm.shared)
 
 distinct-with : (tvm : Tvm) → AreDistinct tvm.shared → (gpa n : ℕ) → model.are_of_one_region tvm (model.is_private tvm) gpa n ≡ true → AreDistinct (model.shared_with tvm gpa n)
 distinct-with tvm once gpa n all =
@@ -175,7 +175,7 @@ none-stand number = record {
 
 -- which pages are shared, by the kinds that were made
 made-shared : (pages : Area) (old new : GuestMap) → AreMade Shared pages old new → (g : ℕ) → is_shared new g ≡ shared_with old pages g
-made-shared pages old new made g = go (has g pages) (made g)
+made-shared pages old new made g = go (has_guest g pages) (made g)
   where
     now : (kind_of new g ≡ Shared) ↔ (is_shared new g ≡ true)
     now = shared-kind (is_shared new g) (covers new.regions g)
@@ -190,7 +190,7 @@ made-shared pages old new made g = go (has g pages) (made g)
         (λ h. elim (or_cases (is_shared old g) false h) [ inl there ↦ now.0 (e ∙ was.1 there) | inr never ↦ absurd (both_ways false refl never) ])
 
 made-private : (pages : Area) (old new : GuestMap) → AreMade Private pages old new → (g : ℕ) → is_shared new g ≡ shared_without old pages g
-made-private pages old new made g = go (has g pages) (made g)
+made-private pages old new made g = go (has_guest g pages) (made g)
   where
     now : (kind_of new g ≡ Shared) ↔ (is_shared new g ≡ true)
     now = shared-kind (is_shared new g) (covers new.regions g)
@@ -212,20 +212,20 @@ added-stand old new tvm next s first n some free made regions grown same = recor
   some = subst (All HasPages) (sym regions) (All-push HasPages old.regions pages s.some (omega (arith, some)));
   shared = λ g. kept g ∙ s.shared g ∙ ap (owners.has g) (sym same);
   each_once = subst AreDistinct (sym same) s.each_once;
-  inside = λ g h. ap (λ areas. covers areas g) regions ∙ covers-push old.regions pages g ∙ or_left (covers old.regions g) (has g pages) (s.inside g (sym (kept g) ∙ h));
+  inside = λ g h. ap (λ areas. covers areas g) regions ∙ covers-push old.regions pages g ∙ or_left (covers old.regions g) (has_guest g pages) (s.inside g (sym (kept g) ∙ h));
 }
   where
     pages : Area
     pages = pages_from first n
 
     -- none of the pages was shared
-    without : (b : Bool) (g : ℕ) → has g pages ≡ b → (is_shared old g && not b) ≡ is_shared old g
+    without : (b : Bool) (g : ℕ) → has_guest g pages ≡ b → (is_shared old g && not b) ≡ is_shared old g
     without true g here = and-turn (is_shared old g) false ∙ sym (false_from_ne_true (is_shared old g) (λ h.
         both_ways (covers old.regions g) (free_page pages old.regions g (meets-stand old tvm s first n ∙ free) here) (s.inside g h)))
     without false g here = and-turn (is_shared old g) true
 
     kept : (g : ℕ) → is_shared new g ≡ is_shared old g
-    kept g = made-private pages old new made g ∙ without (has g pages) g refl
+    kept g = made-private pages old new made g ∙ without (has_guest g pages) g refl
 
 pub shared-stand : SharedStand
 shared-stand old new tvm next s gpa n all made regions kept more = record {
@@ -233,7 +233,7 @@ shared-stand old new tvm next s gpa n all made regions kept more = record {
   some = subst (All HasPages) (sym regions) s.some;
   shared = λ g. made-shared pages old new made g ∙ has-with old tvm s gpa n g ∙ ap (owners.has g) (sym more);
   each_once = subst AreDistinct (sym more) (distinct-with tvm s.each_once gpa n all);
-  inside = λ g h. ap (λ areas. covers areas g) regions ∙ elim (or_cases (is_shared old g) (has g pages) (sym (made-shared pages old new made g) ∙ h)) [
+  inside = λ g h. ap (λ areas. covers areas g) regions ∙ elim (or_cases (is_shared old g) (has_guest g pages) (sym (made-shared pages old new made g) ∙ h)) [
     | inl there ↦ s.inside g there
     | inr here ↦ held_page pages old.regions g ((all-private-agrees old tvm s gpa n).1 all).region here
   ];

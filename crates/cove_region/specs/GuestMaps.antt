@@ -11,8 +11,8 @@ abbrev pub pages_from : (first count : ℕ) → Area
 pages_from first count = record { first = first; end = first + count }
 
 -- an area has a guest page
-abbrev pub has : (g : ℕ) → Area → Bool
-has g area = nat_le area.first g && nat_lt g area.end
+abbrev pub has_guest : (g : ℕ) → Area → Bool
+has_guest g area = nat_le area.first g && nat_lt g area.end
 
 -- an area has every guest page of another, or has one of them
 abbrev pub holds : (pages : Area) → Area → Bool
@@ -23,7 +23,7 @@ meets pages area = nat_lt area.first pages.end && nat_lt pages.first area.end
 
 -- one of the areas has a guest page
 abbrev pub covers : List Area → (g : ℕ) → Bool
-covers areas g = list_any (has g) areas
+covers areas g = list_any (has_guest g) areas
 
 -- a TVM's guest pages: its regions, in the order in which they came, and the rows of those that are shared, in no order
 pub record GuestMap : Type 0 where
@@ -39,7 +39,7 @@ kind_of guests g = if is_shared guests g then Shared else (if covers guests.regi
 
 -- guest pages are all of a kind
 abbrev pub AreAll : GuestMap → AreaKind → (pages : Area) → Type 0
-AreAll guests kind pages = (g : ℕ) → IsTrue (has g pages) → kind_of guests g ≡ kind
+AreAll guests kind pages = (g : ℕ) → IsTrue (has_guest g pages) → kind_of guests g ≡ kind
 
 -- guest pages are all of a kind, and lie in one region
 pub record AreOfOneRegion (guests : GuestMap) (kind : AreaKind) (pages : Area) : Type 0 where
@@ -48,14 +48,14 @@ pub record AreOfOneRegion (guests : GuestMap) (kind : AreaKind) (pages : Area) :
 
 -- every guest page is of the kind that it was, but for some, which are of one kind
 abbrev pub AreMade : AreaKind → (pages : Area) → (old new : GuestMap) → Type 0
-AreMade kind pages old new = (g : ℕ) → kind_of new g ≡ (if has g pages then kind else kind_of old g)
+AreMade kind pages old new = (g : ℕ) → kind_of new g ≡ (if has_guest g pages then kind else kind_of old g)
 
 -- the shared guest pages and some more, or without some
 abbrev pub shared_with : GuestMap → (pages : Area) → (g : ℕ) → Bool
-shared_with guests pages g = is_shared guests g || has g pages
+shared_with guests pages g = is_shared guests g || has_guest g pages
 
 abbrev pub shared_without : GuestMap → (pages : Area) → (g : ℕ) → Bool
-shared_without guests pages g = is_shared guests g && not (has g pages)
+shared_without guests pages g = is_shared guests g && not (has_guest g pages)
 
 -- a row of shared guest pages begins at one that comes after none of them
 abbrev pub begins : (shared : ℕ → Bool) → (g : ℕ) → Bool

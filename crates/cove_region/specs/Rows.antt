@@ -2,7 +2,7 @@
 use Rattle.std.specs.Prelude.{◌≡◌, ℕ, ◌<◌, ◌≤◌, Bool, true, false, ◌==◌, ◌||◌, nat_lt, ◌⊎◌, if◌then◌else◌, List, [], ◌∷◌, ◌++◌, length}
 use Rattle.std.specs.List.{list_any, All, AllPairs, remove}
 use Rattle.cove_region.specs.declared.areas.Area.{Area}
-use Rattle.cove_region.specs.GuestMaps.{covers, has}
+use Rattle.cove_region.specs.GuestMaps.{covers, has_guest}
 use Rattle.cove_base.specs.declared.limits.TheConstants.{REGION_LIMIT, SHARED_RUN_LIMIT}
 
 -- an area has a guest page
@@ -50,7 +50,7 @@ pub record JoinsBefore (old : List Area) (pages : Area) (new : List Area) (joine
   pub rows : AreRows new
   pub some : HasPages joined
   pub end : joined.end ≡ pages.end
-  pub together : (g : ℕ) → (covers new g || has g joined) ≡ (covers old g || has g pages)
+  pub together : (g : ℕ) → (covers new g || has_guest g joined) ≡ (covers old g || has_guest g pages)
   pub apart : All (AreApartBefore joined) new
   pub none : list_any (ends_at pages.first) old ≡ false → new ≡ old
   pub fewer : list_any (ends_at pages.first) old ≡ true → length new < length old
@@ -59,7 +59,7 @@ pub record JoinsBefore (old : List Area) (pages : Area) (new : List Area) (joine
 pub record JoinsAfter (old : List Area) (pages : Area) (new : List Area) (joined : Area) : Type 0 where
   pub rows : AreRows new
   pub some : HasPages joined
-  pub together : (g : ℕ) → (covers new g || has g joined) ≡ (covers old g || has g pages)
+  pub together : (g : ℕ) → (covers new g || has_guest g joined) ≡ (covers old g || has_guest g pages)
   pub apart : All (AreApart joined) new
   pub none : list_any (begins_at pages.end) old ≡ false → new ≡ old
   pub fewer : list_any (begins_at pages.end) old ≡ true → length new < length old

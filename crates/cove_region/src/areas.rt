@@ -1,6 +1,6 @@
 ghost use Rattle.std.specs.Prelude.{◌≡◌};
 ghost use Rattle.std.specs.List.{list_any, position};
-ghost use Rattle.cove_region.specs.GuestMaps.{covers, has, holds, meets};
+ghost use Rattle.cove_region.specs.GuestMaps.{covers, has_guest, holds, meets};
 ghost use Rattle.cove_region.specs.Rows.{begins_at, ends_at};
 
 /// Guest pages in a row: from the first up to the end, which is no more of them.
@@ -13,7 +13,7 @@ pub struct Area {
 impl Area {
     /// Whether it has a guest page.
     pub fn has(&self, page: u64) -> bool
-        ensures { result ≡ has page self.now }
+        ensures { result ≡ has_guest page self.now }
     {
         self.first <= page && page < self.end
     }

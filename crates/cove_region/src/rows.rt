@@ -1,7 +1,7 @@
 //! Rows of shared guest pages, in no order.
 ghost use Rattle.std.specs.Prelude.{◌≡◌, ◌<◌, ◌≤◌, ◌||◌, ◌++◌, ◌∷◌, [], ℕ, IsTrue, IsFalse, ◌⊎◌, length, slice_index_or};
 ghost use Rattle.std.specs.List.{list_any, All};
-ghost use Rattle.cove_region.specs.GuestMaps.{covers, has, meets};
+ghost use Rattle.cove_region.specs.GuestMaps.{covers, has_guest, meets};
 ghost use Rattle.cove_region.specs.Rows.{adjoin, AreApartBefore, AreRows, JoinsAfter, JoinsBefore, rows_cut, rows_with};
 
 use crate::areas::{Area, any_begins_at, any_ends_at, first_beginning, first_ending};
@@ -26,7 +26,7 @@ pub fn join(rows: &mut Rows, pages: Area)
     requires few { length rows.old.items ≤ SHARED_RUN_LIMIT }
     requires room { (length rows.old.items < SHARED_RUN_LIMIT) ⊎ IsTrue (adjoin rows.old.items pages) }
     ensures rows { AreRows rows.new.items }
-    ensures pages { (g : ℕ) → covers rows.new.items g ≡ (covers rows.old.items g || has g pages) }
+    ensures pages { (g : ℕ) → covers rows.new.items g ≡ (covers rows.old.items g || has_guest g pages) }
     ensures few { length rows.new.items ≤ SHARED_RUN_LIMIT }
 {
     let longer = join_before(rows, pages);

@@ -3,7 +3,7 @@ use Rattle.std.proofs.Common.{◌≡◌, ℕ, zero, suc, ◌+◌, ◌-◌, ◌/�
 use Rattle.cove_base.specs.Tables.{InRoot, InMiddle, entry_at}
 use Rattle.cove_stage2.specs.declared.tables.Level.{Level}
 use Rattle.cove_stage2.specs.declared.tables.Level.TheVariants.{Root, Middle}
-use Rattle.cove_stage2.specs.Lacked.{flag, slot_at, absent_among, blocks_touched, tables_lacked}
+use Rattle.cove_stage2.specs.Lacked.{flag, slot_of_level, absent_among, blocks_touched, tables_lacked}
 
 -- how many of the k numbers from one on pass a test
 abbrev pub count_among : (test : ℕ → Bool) (n k : ℕ) → ℕ
@@ -11,15 +11,15 @@ count_among test n zero = 0
 count_among test n (suc k) = flag (test n) + count_among test (n + 1) k
 
 -- a test that tells which slots of a level have no entry counts them
-absent_told : (pages root : ℕ) (words : List ℕ) (level : Level) (test : ℕ → Bool) (n k : ℕ) → ((i : ℕ) → i < k → test (n + i) ≡ (entry_at pages root words (slot_at level (n + i)) == 0)) → absent_among pages root words level n k ≡ count_among test n k
+absent_told : (pages root : ℕ) (words : List ℕ) (level : Level) (test : ℕ → Bool) (n k : ℕ) → ((i : ℕ) → i < k → test (n + i) ≡ (entry_at pages root words (slot_of_level level (n + i)) == 0)) → absent_among pages root words level n k ≡ count_among test n k
 absent_told pages root words level test n zero tells = refl
 absent_told pages root words level test n (suc k) tells =
     let first : n + 0 ≡ n = omega arith in
-    let is = subst (λ m. test m ≡ (entry_at pages root words (slot_at level m) == 0)) first (tells 0 (omega arith)) in
-    let here : flag (test n) ≡ flag (entry_at pages root words (slot_at level n) == 0) = ap flag is in
+    let is = subst (λ m. test m ≡ (entry_at pages root words (slot_of_level level m) == 0)) first (tells 0 (omega arith)) in
+    let here : flag (test n) ≡ flag (entry_at pages root words (slot_of_level level n) == 0) = ap flag is in
     let rest = absent_told pages root words level test (n + 1) k (λ i h.
     let next : n + (i + 1) ≡ n + 1 + i = omega arith in
-    subst (λ m. test m ≡ (entry_at pages root words (slot_at level m) == 0)) next (tells (i + 1) (omega arith))) in
+    subst (λ m. test m ≡ (entry_at pages root words (slot_of_level level m) == 0)) next (tells (i + 1) (omega arith))) in
     omega (arith, here, rest)
 
 -- what a run lacks, by a test of each level

@@ -10,7 +10,7 @@ use Rattle.cove_base.specs.TableWords.{blocked}
 use Rattle.cove_base.specs.Tables.{Slot, InRoot, InMiddle, InLast, IsLeaf, IsPresent, IsLinkSlot, IsPool, IsSlot, IsTree, StandsAt, entry_at, leaf_at, next_table, present}
 use Rattle.cove_base.specs.declared.numbers.Role.TheVariants.{Table}
 use Rattle.cove_model.proofs.OwnedStores.{IsOwnPlace, one_root}
-use Rattle.cove_model.specs.LawfulStores.{IsBehind, IsLawful, ChangesTable, IsLeft, IsTableOf, TableChange, Links, Maps, Blocks, Unblocks, Unmaps, Rewrites}
+use Rattle.cove_model.specs.LawfulStores.{IsBehindLeaf, IsLawful, ChangesTable, IsLeft, IsTableOf, TableChange, Links, Maps, Blocks, Unblocks, Unmaps, Rewrites}
 use Rattle.cove_model.specs.WordsStand.{number_in}
 use Rattle.cove_stage2.proofs.LeafLemmas.{blocked-some, leaf-changes, leaf-linked, leaf-stands, present-some, unblocked-blocked}
 use Rattle.cove_stage2.proofs.LinkLemmas.{enough-lower, enough-upper, links-none, links-some, pool-none}
@@ -214,7 +214,7 @@ middle_place pages root words n q named =
     let is : entry_at pages root words (InRoot (n / 512)) / 1024 ≡ q = omega (arith, named) in
     (q, named, ap (λ p. table_word pages p (n % 512)) is)
 
-behind_kept : (pages : ℕ) (words new : List ℕ) (tvm page : ℕ) (shared : Bool) → page < pages → ((p : ℕ) → p < pages → get_or new p 0 ≡ get_or words p 0) → IsBehind words tvm page shared → IsBehind new tvm page shared
+behind_kept : (pages : ℕ) (words new : List ℕ) (tvm page : ℕ) (shared : Bool) → page < pages → ((p : ℕ) → p < pages → get_or new p 0 ≡ get_or words p 0) → IsBehindLeaf words tvm page shared → IsBehindLeaf new tvm page shared
 behind_kept pages words new tvm page false below stay was = stay page below ∙ was
 behind_kept pages words new tvm page true below stay was = (was.0, was.1, stay page below ∙ was.2)
 
@@ -260,7 +260,7 @@ module _ (pages harts hart : ℕ) (old words pool : List ℕ) (tvm root g : ℕ)
   way_is = stored-append words upper_stores lower_stores
 
   -- a page is mapped that stands behind the leaf
-  module _ (page : ℕ) (shared : Bool) (below : page < pages) (none : leaf_at pages root words g ≡ 0) (behind : IsBehind words tvm page shared) where
+  module _ (page : ℕ) (shared : Bool) (below : page < pages) (none : leaf_at pages root words g ≡ 0) (behind : IsBehindLeaf words tvm page shared) where
     leaf_none : leaf_at pages root linked g ≡ 0
     leaf_none = lower.links.others (InLast g) low (λ e. middle≢last (g / 512) g (sym e)) ∙ upper.links.others (InLast g) low (λ e. root≢last (g / 512 / 512) g (sym e)) ∙ none
 

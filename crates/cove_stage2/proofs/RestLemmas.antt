@@ -7,7 +7,7 @@ use Rattle.cove_base.specs.Tables.{InRoot, InMiddle, entry_at, next_table}
 use Rattle.cove_stage2.specs.declared.tables.Level.{Level}
 use Rattle.cove_stage2.specs.declared.tables.Level.TheVariants.{Root, Middle}
 use Rattle.cove_stage2.specs.Changes.{NamesWay}
-use Rattle.cove_stage2.specs.Lacked.{flag, slot_at, absent_among, blocks_touched, tables_lacked, LacksRest}
+use Rattle.cove_stage2.specs.Lacked.{flag, slot_of_level, absent_among, blocks_touched, tables_lacked, LacksRest}
 use Rattle.cove_stage2.specs.MapStores.{pool_after, pool_left}
 use Rattle.cove_stage2.proofs.LinkLemmas.{tables_lacked-one}
 
@@ -20,24 +20,24 @@ pub next-some : (entry page : ℕ) → entry ≡ next_table page → entry ≢ 0
 next-some entry page e none = omega arith
 
 -- the same entries are counted alike
-absent_among-kept : (pages root : ℕ) (old new : List ℕ) (level : Level) (n k : ℕ) → ((i : ℕ) → i < k → entry_at pages root new (slot_at level (n + i)) ≡ entry_at pages root old (slot_at level (n + i))) → absent_among pages root new level n k ≡ absent_among pages root old level n k
+absent_among-kept : (pages root : ℕ) (old new : List ℕ) (level : Level) (n k : ℕ) → ((i : ℕ) → i < k → entry_at pages root new (slot_of_level level (n + i)) ≡ entry_at pages root old (slot_of_level level (n + i))) → absent_among pages root new level n k ≡ absent_among pages root old level n k
 absent_among-kept pages root old new level n zero kept = refl
 absent_among-kept pages root old new level n (suc k) kept =
     let first : n + 0 ≡ n = omega arith in
-    let same = subst (λ m. entry_at pages root new (slot_at level m) ≡ entry_at pages root old (slot_at level m)) first (kept 0 (omega arith)) in
-    let here : flag (entry_at pages root new (slot_at level n) == 0) ≡ flag (entry_at pages root old (slot_at level n) == 0) = ap (λ e. flag (e == 0)) same in
+    let same = subst (λ m. entry_at pages root new (slot_of_level level m) ≡ entry_at pages root old (slot_of_level level m)) first (kept 0 (omega arith)) in
+    let here : flag (entry_at pages root new (slot_of_level level n) == 0) ≡ flag (entry_at pages root old (slot_of_level level n) == 0) = ap (λ e. flag (e == 0)) same in
     let rest = absent_among-kept pages root old new level (n + 1) k (λ i h.
     let next : n + (i + 1) ≡ n + 1 + i = omega arith in
-    subst (λ m. entry_at pages root new (slot_at level m) ≡ entry_at pages root old (slot_at level m)) next (kept (i + 1) (omega arith))) in
+    subst (λ m. entry_at pages root new (slot_of_level level m) ≡ entry_at pages root old (slot_of_level level m)) next (kept (i + 1) (omega arith))) in
     omega (arith, here, rest)
 
 -- what is left to count of a level once the first of its slots names a table: from the same slot on, or from the next
-absent-rest : (pages root : ℕ) (old new : List ℕ) (level : Level) (b e k : ℕ) → entry_at pages root new (slot_at level b) ≢ 0 → ((i : ℕ) → i < k → entry_at pages root new (slot_at level (b + 1 + i)) ≡ entry_at pages root old (slot_at level (b + 1 + i))) → (e ≡ b) ⊎ (e ≡ b + 1) → absent_among pages root new level e (b + suc k - e) + flag (entry_at pages root old (slot_at level b) == 0) ≡ absent_among pages root old level b (suc k)
+absent-rest : (pages root : ℕ) (old new : List ℕ) (level : Level) (b e k : ℕ) → entry_at pages root new (slot_of_level level b) ≢ 0 → ((i : ℕ) → i < k → entry_at pages root new (slot_of_level level (b + 1 + i)) ≡ entry_at pages root old (slot_of_level level (b + 1 + i))) → (e ≡ b) ⊎ (e ≡ b + 1) → absent_among pages root new level e (b + suc k - e) + flag (entry_at pages root old (slot_of_level level b) == 0) ≡ absent_among pages root old level b (suc k)
 absent-rest pages root old new level b e k some kept (inl same) =
     let count : b + suc k - e ≡ suc k = omega arith in
     let rest = absent_among-kept pages root old new level (b + 1) k kept in
-    let named = flag-some (entry_at pages root new (slot_at level b)) some in
-    let is : absent_among pages root new level e (b + suc k - e) ≡ flag (entry_at pages root new (slot_at level b) == 0) + absent_among pages root new level (b + 1) k =
+    let named = flag-some (entry_at pages root new (slot_of_level level b)) some in
+    let is : absent_among pages root new level e (b + suc k - e) ≡ flag (entry_at pages root new (slot_of_level level b) == 0) + absent_among pages root new level (b + 1) k =
     ap (absent_among pages root new level e) count ∙ ap (λ m. absent_among pages root new level m (suc k)) same in
     omega (arith, rest, named, is)
 absent-rest pages root old new level b e k some kept (inr next) =

@@ -9,15 +9,15 @@ flag true = 1
 flag false = 0
 
 -- a slot of one of the upper two levels
-abbrev pub slot_at : Level → ℕ → Slot
-slot_at Root n = InRoot n
-slot_at Middle n = InMiddle n
+abbrev pub slot_of_level : Level → ℕ → Slot
+slot_of_level Root n = InRoot n
+slot_of_level Middle n = InMiddle n
 
 -- how many of the k slots of a level from n on have no entry
 abbrev pub absent_among : (pages root : ℕ) (words : List ℕ) → Level → (n k : ℕ) → ℕ
 absent_among pages root words level n zero = 0
 absent_among pages root words level n (suc k) =
-    flag (entry_at pages root words (slot_at level n) == 0) + absent_among pages root words level (n + 1) k
+    flag (entry_at pages root words (slot_of_level level n) == 0) + absent_among pages root words level (n + 1) k
 
 -- how many blocks of as many guest pages a run touches
 abbrev pub blocks_touched : (size first count : ℕ) → ℕ

@@ -6,7 +6,7 @@ use Rattle.cove_base.specs.Stores.{AllAllowed, stored}
 use Rattle.cove_base.specs.TableWords.{blocked}
 use Rattle.cove_base.specs.Tables.{Slot, IsLeaf, IsLinkSlot, IsPool, IsTree, entry_at, leaf_at, next_table, present}
 use Rattle.cove_base.specs.declared.numbers.Role.TheVariants.{Table}
-use Rattle.cove_model.specs.LawfulStores.{AreInsideAbove, IsBehind, IsLawful, IsLeft, IsRoot, IsTableOf}
+use Rattle.cove_model.specs.LawfulStores.{AreInsideAbove, IsBehindLeaf, IsLawful, IsLeft, IsRoot, IsTableOf}
 use Rattle.cove_model.specs.WordsStand.{number_in}
 use Rattle.cove_stage2.specs.Changes.{clear_stores, leaf_stores, unblocked}
 use Rattle.cove_stage2.specs.Lacked.{tables_lacked}
@@ -26,7 +26,7 @@ MapIsLawful =
     (pages harts hart : ℕ) (old words pool : List ℕ) (tvm root g page : ℕ) (shared : Bool)
     → g < 2 ^ 29 → page < pages → IsTree pages root words → IsPool pages root words pool
     → AreGiven pages words tvm root pool → leaf_at pages root words g ≡ 0
-    → tables_lacked pages root words g 1 ≤ length pool → IsBehind words tvm page shared
+    → tables_lacked pages root words g 1 ≤ length pool → IsBehindLeaf words tvm page shared
     → AllAllowed (IsLawful pages harts hart old) words (map_stores pages root words pool g (present page shared))
 
 -- the store that blocks a leaf with the TVM's number, where the leaf was there at the last entry

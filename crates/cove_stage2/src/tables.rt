@@ -7,7 +7,7 @@ ghost use Rattle.cove_base.specs.Stores.{fills, stored, AllAllowed};
 ghost use Rattle.cove_base.specs.TableWords.{blocked};
 ghost use Rattle.cove_stage2.specs.Changes.{ChangesLeaf, clear_stores, ClearsPage, KeepsLeaves, KeepsLinks, LinksTable, NamesWay, IsPresentLeaf, IsBlockedLeaf, unblocked, leaf_stores};
 ghost use Rattle.cove_stage2.specs.Entries.{leaf_word, IsWithin};
-ghost use Rattle.cove_stage2.specs.Lacked.{flag, slot_at, absent_among, tables_lacked, LacksRest};
+ghost use Rattle.cove_stage2.specs.Lacked.{flag, slot_of_level, absent_among, tables_lacked, LacksRest};
 ghost use Rattle.cove_stage2.specs.MapStores.{link_stores, map_stores, pool_after, pool_left, way_stores};
 ghost use Rattle.cove_stage2.specs.Walks.{WalksTo};
 
@@ -211,19 +211,19 @@ impl Tables {
 
     // the table that a slot names, linked out of the pool where it names none
     fn linked<W: Words>(&self, w: &mut W, level: Level, n: u32, place: u32, pool: &mut Pool) -> Page
-        requires slot { IsLinkSlot (slot_at level n) }
+        requires slot { IsLinkSlot (slot_of_level level n) }
         requires tree { IsTree self.now.pages self.now.root.0 (W.words w.old) }
         requires pool { IsPool self.now.pages self.now.root.0 (W.words w.old) pool.old.pages }
-        requires place { StandsAt self.now.pages self.now.root.0 (W.words w.old) (slot_at level n) place }
-        requires enough { entry_at self.now.pages self.now.root.0 (W.words w.old) (slot_at level n) ≡ 0 → 0 < length pool.old.pages }
+        requires place { StandsAt self.now.pages self.now.root.0 (W.words w.old) (slot_of_level level n) place }
+        requires enough { entry_at self.now.pages self.now.root.0 (W.words w.old) (slot_of_level level n) ≡ 0 → 0 < length pool.old.pages }
         requires allowed { AllAllowed (W.allows (W.guard w.old)) (W.words w.old)
-            (link_stores (entry_at self.now.pages self.now.root.0 (W.words w.old) (slot_at level n)) place pool.old.pages) }
+            (link_stores (entry_at self.now.pages self.now.root.0 (W.words w.old) (slot_of_level level n)) place pool.old.pages) }
         ensures stores { W.words w.new ≡ stored (W.words w.old)
-            (link_stores (entry_at self.now.pages self.now.root.0 (W.words w.old) (slot_at level n)) place pool.old.pages) }
-        ensures table { LinksTable self.now.pages self.now.root.0 (W.words w.old) (W.words w.new) (slot_at level n) result.0 }
+            (link_stores (entry_at self.now.pages self.now.root.0 (W.words w.old) (slot_of_level level n)) place pool.old.pages) }
+        ensures table { LinksTable self.now.pages self.now.root.0 (W.words w.old) (W.words w.new) (slot_of_level level n) result.0 }
         ensures board { result.0 < self.now.pages }
         ensures pool { pool.new.pages
-            ≡ pool_after (entry_at self.now.pages self.now.root.0 (W.words w.old) (slot_at level n)) pool.old.pages }
+            ≡ pool_after (entry_at self.now.pages self.now.root.0 (W.words w.old) (slot_of_level level n)) pool.old.pages }
         ensures room { pool.new.room ≡ pool.old.room }
         ensures spare { IsPool self.now.pages self.now.root.0 (W.words w.new) pool.new.pages }
         ensures guard { W.guard w.new ≡ W.guard w.old }
@@ -287,7 +287,7 @@ impl Tables {
 
     // how many of the k slots of a level from n on have no entry
     fn absent<W: Words>(&self, w: &mut W, level: Level, n: u32, k: u32) -> u32
-        requires slots { (i : ℕ) → i < k → IsLinkSlot (slot_at level (n + i)) }
+        requires slots { (i : ℕ) → i < k → IsLinkSlot (slot_of_level level (n + i)) }
         requires tree { IsTree self.now.pages self.now.root.0 (W.words w.old) }
         ensures absent { result ≡ absent_among self.now.pages self.now.root.0 (W.words w.old) level n k }
         ensures most { result ≤ k }
@@ -302,9 +302,9 @@ impl Tables {
 
     // the entry of a slot
     fn entry<W: Words>(&self, w: &mut W, level: Level, n: u32) -> u64
-        requires slot { IsLinkSlot (slot_at level n) }
+        requires slot { IsLinkSlot (slot_of_level level n) }
         requires tree { IsTree self.now.pages self.now.root.0 (W.words w.old) }
-        ensures entry { result ≡ entry_at self.now.pages self.now.root.0 (W.words w.old) (slot_at level n) }
+        ensures entry { result ≡ entry_at self.now.pages self.now.root.0 (W.words w.old) (slot_of_level level n) }
         ensures unchanged { Unchanged W.words W.clean W.guard w.old w.new }
     {
         match level {

@@ -1,5 +1,5 @@
 ghost use Rattle.std.specs.Prelude.{◌≡◌, ◌≤◌, [], length, None, IfOk};
-ghost use Rattle.cove_base.specs.Rings.{filled, found, ring_room};
+ghost use Rattle.cove_base.specs.Rings.{ring_with, found, ring_room};
 
 use circular_buffer::HeapCircularBuffer;
 use cove_base::{NoMemory, Page};
@@ -51,7 +51,7 @@ impl Ring {
     /// Puts a page in as the newest. The key is not there yet.
     pub fn fill(&mut self, key: u64, page: Page)
         requires { found key self.old ≡ None }
-        ensures { self.new ≡ filled self.old key page }
+        ensures { self.new ≡ ring_with self.old key page }
     {
         self.pairs.push_back((key, page));
     }

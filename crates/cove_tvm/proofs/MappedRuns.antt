@@ -4,7 +4,7 @@ use Rattle.std.proofs.lemmas.Bool.{cases_eq}
 use Rattle.cove_base.specs.Places.{all_words, table_word}
 use Rattle.cove_base.specs.Stores.{AllAllowed, stored}
 use Rattle.cove_base.specs.Tables.{Slot, InRoot, InMiddle, IsLinkSlot, entry_at, leaf_at, present}
-use Rattle.cove_model.specs.LawfulStores.{IsBehind, IsLawful, IsTableOf, MakesLawful}
+use Rattle.cove_model.specs.LawfulStores.{IsBehindLeaf, IsLawful, IsTableOf, MakesLawful}
 use Rattle.cove_stage2.proofs.LackedLemmas.{tables_lacked-first}
 use Rattle.cove_stage2.proofs.LawfulLemmas.{map_is_lawful, map_keeps_given}
 use Rattle.cove_stage2.proofs.MapPlaces.{MapLeaves, map_leaves}
@@ -60,11 +60,11 @@ module _ (pages harts t root g p n i : ℕ) (shared : Bool) (old pool words left
   pub next_absent : leaf_at pages root words (g + i) ≡ 0
   next_absent = done.others (g + i) guest (inr (omega arith)) ∙ may.absent i low
 
-  behind_stays : (q : ℕ) (kind : Bool) → q < pages → IsBehind old t q kind → IsBehind words t q kind
+  behind_stays : (q : ℕ) (kind : Bool) → q < pages → IsBehindLeaf old t q kind → IsBehindLeaf words t q kind
   behind_stays q false on was = page_stays q on ∙ was
   behind_stays q true on was = (was.0, was.1, page_stays q on ∙ was.2)
 
-  pub next_behind : IsBehind words t (p + i) shared
+  pub next_behind : IsBehindLeaf words t (p + i) shared
   next_behind = behind_stays (p + i) shared on_board (may.behind i low)
 
   enough_left : tables_lacked pages root words (g + i) (n - i) ≤ length left

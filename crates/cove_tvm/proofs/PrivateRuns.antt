@@ -15,7 +15,7 @@ use Rattle.cove_model.proofs.LeafWords.{given_role}
 use Rattle.cove_model.proofs.PageRuns.{each_inside, length_change_each}
 use Rattle.cove_model.proofs.Runs.{every_at, run_cases}
 use Rattle.cove_model.proofs.StandLemmas.{host_page}
-use Rattle.cove_model.specs.HostCalls.{page_records, words_from}
+use Rattle.cove_model.specs.HostCalls.{page_records, page_words_from}
 use Rattle.cove_model.specs.Mappings.{own_mappings, with_mappings}
 use Rattle.cove_model.specs.Owners.{AsData, Given, Owner, every, is_host, page_at, words_of, zeros}
 use Rattle.cove_model.specs.Pages.{change_each, given_to}
@@ -152,7 +152,7 @@ zero_stands k words G S hart base n gpa old model frames new left may filled roo
 -- the words of the host's pages are those of their frames
 module _ (k : ℕ) (words : List ℕ) (G : Ground) (S : MonitorState) (src n : ℕ) (stands : Stands words G S)
     (inside : src / 4096 + n ≤ G.pages) (hosts : every is_host (src / 4096) n S.pages ≡ true) where
-  pub content_is : (j : ℕ) → j < n → get_or (words_from S src n) j [] ≡ get_or G.memory (src / 4096 + j) []
+  pub content_is : (j : ℕ) → j < n → get_or (page_words_from S src n) j [] ≡ get_or G.memory (src / 4096 + j) []
   content_is j low =
       let long = stands.words_stand.stands.owners.page_count in
       let count = stands.frames.count in
@@ -164,8 +164,8 @@ module _ (k : ℕ) (words : List ℕ) (G : Ground) (S : MonitorState) (src n : �
 
 pub measured_stands : MeasuredStands
 measured_stands k words G S hart src dst n gpa old model frames new left measured may inside hosts filled room run are =
-    owned_stands may (words_from S src n) (length-map-range_with_len (λ p. words_of (page_at S.pages p)) (src / 4096) n)
-    (λ records. records ++ page_records gpa (words_from S src n)) left
+    owned_stands may (page_words_from S src n) (length-map-range_with_len (λ p. words_of (page_at S.pages p)) (src / 4096) n)
+    (λ records. records ++ page_records gpa (page_words_from S src n)) left
     (record {
       count = filled.count;
       here = λ j low. filled.here j low ∙ sym (content_is k words G S src n may.stands inside hosts j low);

@@ -10,7 +10,7 @@ use Rattle.cove_base.specs.TableWords.{private_leaf}
 use Rattle.cove_base.specs.Tables.{Slot, InRoot, InMiddle, InLast, IsPresent, IsLinkSlot, IsPool, IsSlot, IsSpare, IsTree, below, entry_at, leaf_at, next_table, present}
 use Rattle.cove_base.specs.declared.numbers.Role.TheVariants.{Root, Table, Data}
 use Rattle.cove_model.proofs.Lists.{replicate_zero}
-use Rattle.cove_model.specs.LawfulStores.{IsBehind}
+use Rattle.cove_model.specs.LawfulStores.{IsBehindLeaf}
 use Rattle.cove_model.specs.Tvms.{new_tvm}
 use Rattle.cove_stage2.proofs.RestLemmas.{lacks-rest}
 use Rattle.cove_stage2.proofs.ZeroLemmas.{empty-entries, empty-tree}
@@ -108,7 +108,7 @@ lacked : tables_lacked 8 4 mappable 9 1 ≡ 2
 unfolding below
 lacked = refl
 
-may_map : (p : ℕ) (shared : Bool) → p < 8 → IsBehind mappable 1 p shared → MayMap 8 1 mappable 1 4 (0 ∷ 1 ∷ []) 9 p 1 shared
+may_map : (p : ℕ) (shared : Bool) → p < 8 → IsBehindLeaf mappable 1 p shared → MayMap 8 1 mappable 1 4 (0 ∷ 1 ∷ []) 9 p 1 shared
 may_map p shared low behind = record {
   size = refl;
   few = omega arith;
@@ -116,7 +116,7 @@ may_map p shared low behind = record {
   guests = omega arith;
   inside = omega arith;
   absent = λ j small. no_entry (InLast (9 + j)) (omega arith);
-  behind = λ j small. let same : p ≡ p + j = omega arith in subst (λ k. IsBehind mappable 1 k shared) same behind;
+  behind = λ j small. let same : p ≡ p + j = omega arith in subst (λ k. IsBehindLeaf mappable 1 k shared) same behind;
   enough = omega (arith, lacked);
 }
 

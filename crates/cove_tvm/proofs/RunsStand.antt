@@ -17,7 +17,7 @@ use Rattle.cove_model.proofs.KeyedLemmas.{at_alter_other, at_alter_same, at_appe
 use Rattle.cove_model.proofs.LeafWords.{given_number}
 use Rattle.cove_model.proofs.Runs.{every_at, run_cases}
 use Rattle.cove_model.proofs.StandLemmas.{page_moves, seat_moves}
-use Rattle.cove_model.specs.LawfulStores.{IsBehind, IsTableOf}
+use Rattle.cove_model.specs.LawfulStores.{IsBehindLeaf, IsTableOf}
 use Rattle.cove_model.specs.Mappings.{mapping_of, own_words, with_mappings}
 use Rattle.cove_model.specs.Owners.{AsRoot, AsState, AsTable, AsVcpu, AsData, Converting, Free, Given, Host, Owner, page_at}
 use Rattle.cove_model.specs.States.{State as MonitorState, find_tvm, on_tvm}
@@ -79,7 +79,7 @@ pub record Prepares (pages harts t first n : ℕ) (shared : Bool) (words mid : L
   pub others : (place : ℕ) → (place < first) ⊎ (first + n ≤ place) → get_or mid place 0 ≡ get_or words place 0
   pub keeps : KeepsTvm pages harts words mid t
   pub leaves : (u : ℕ) → u ≢ t → u ≤ TVM_LIMIT → LeavesTvm pages harts words mid u
-  pub behind : (j : ℕ) → j < n → IsBehind mid t (first + j) shared
+  pub behind : (j : ℕ) → j < n → IsBehindLeaf mid t (first + j) shared
   pub fresh :
       (q : ℕ) (role : Role) → q < pages → get_or mid q 0 ≡ given t role
       → (get_or words q 0 ≡ given t role) ⊎ ((role ≡ Data) × ((j : ℕ) × (j < n) × (q ≡ first + j)) × (shared ≡ false))

@@ -3,7 +3,7 @@ use Rattle.std.specs.Prelude.{◌≡◌, ◌≢◌, ℕ, zero, suc, ◌+◌, ◌
 use Rattle.cove_base.specs.Places.{all_words, table_word}
 use Rattle.cove_base.specs.Stores.{stored}
 use Rattle.cove_base.specs.Tables.{Slot, InRoot, InMiddle, IsLinkSlot, IsPool, entry_at, leaf_at, next_table, present}
-use Rattle.cove_model.specs.LawfulStores.{IsBehind, IsTableOf, MakesLawful}
+use Rattle.cove_model.specs.LawfulStores.{IsBehindLeaf, IsTableOf, MakesLawful}
 use Rattle.cove_model.specs.TableLaw.{shared_leaves, shared_once}
 use Rattle.cove_stage2.specs.Changes.{ChangesLeaf, NamesWay}
 use Rattle.cove_stage2.specs.Lacked.{LacksRest, tables_lacked}
@@ -24,7 +24,7 @@ pub record MayMap (pages harts : ℕ) (words : List ℕ) (t root : ℕ) (pool : 
   pub guests : g + n ≤ 2 ^ 29
   pub inside : p + n ≤ pages
   pub absent : (j : ℕ) → j < n → leaf_at pages root words (g + j) ≡ 0
-  pub behind : (j : ℕ) → j < n → IsBehind words t (p + j) shared
+  pub behind : (j : ℕ) → j < n → IsBehindLeaf words t (p + j) shared
   pub enough : tables_lacked pages root words g n ≤ length pool
 
 -- The first i of them are mapped, whatever the words and the pool were: their leaves are there, the slots on their ways name

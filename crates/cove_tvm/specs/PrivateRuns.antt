@@ -6,7 +6,7 @@ use Rattle.cove_base.specs.Places.{page_word}
 use Rattle.cove_base.specs.Stores.{AllAllowed, fills, stored}
 use Rattle.cove_base.specs.declared.calls.HostCall.TheVariants.{Measured, Zero}
 use Rattle.cove_base.specs.declared.numbers.Role.TheVariants.{Data}
-use Rattle.cove_model.specs.HostCalls.{page_records, rule, words_from}
+use Rattle.cove_model.specs.HostCalls.{page_records, rule, page_words_from}
 use Rattle.cove_model.specs.LawfulStores.{IsLawful}
 use Rattle.cove_model.specs.Owners.{every, is_free, is_host, zeros}
 use Rattle.cove_model.specs.States.{State}
@@ -73,6 +73,6 @@ MeasuredStands =
     → src / 4096 + n ≤ G.pages → every is_host (src / 4096) n S.pages ≡ true
     → FillsFrames (dst / 4096) n (λ j. slice_index_or G.memory (src / 4096 + j) []) G.memory frames
     → left.room ≡ old.pool.room → OwnsRun words G k dst n gpa old new left
-    → measured ≡ registers_of (model.records ++ page_records gpa (words_from S src n)) model.extensions
+    → measured ≡ registers_of (model.records ++ page_records gpa (page_words_from S src n)) model.extensions
     → Stands new (record G { memory = frames; tvms = with_tvm G.tvms k (record old { pool = left; registers = measured }) })
     (rule S hart (Measured (suc k) src dst n gpa)).outcome.state

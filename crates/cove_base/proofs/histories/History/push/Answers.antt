@@ -2,7 +2,7 @@ use Rattle.std.proofs.Common.{◌≡◌, ◌++◌, [], ◌∷◌, true, length, 
 use Rattle.std.specs.List.{list_all}
 use Rattle.std.proofs.lemmas.List.{length-map}
 use Rattle.cove_base.specs.declared.compact.CompactEntry.{CompactEntry}
-use Rattle.cove_base.specs.CompactEntries.{entry_of, is_among, quotes_of}
+use Rattle.cove_base.specs.CompactEntries.{entry_of, quote_is_among, quotes_of}
 use Rattle.cove_base.proofs.CompactEntryLemmas.{shown_appended, among_appended, one_quote}
 use Rattle.cove_base.proofs.histories.History.push.Goals as goal
 
@@ -15,7 +15,7 @@ invariant_of-self c =
     let size = ap length grown ∙ length-append was.entries.items (last ∷ []) in
     let shown = ap length (sym c.self.view_is) ∙ length-map was.entries.items (entry_of was.quotes.items) in
     record {
-      among = subst (λ entries. list_all (λ entry. is_among (length after) entry.event) entries ≡ true) (sym grown)
+      among = subst (λ entries. list_all (λ entry. quote_is_among (length after) entry.event) entries ≡ true) (sym grown)
           (among_appended was.quotes.items (quotes_of c.args.item.event) after was.entries.items last c.self.invariant.among c.compact-event.ensures.quotes c.compact-event.ensures.among);
       few_quotes = omega (
         arith,

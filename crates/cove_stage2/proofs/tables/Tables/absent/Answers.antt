@@ -1,6 +1,6 @@
 use Rattle.std.proofs.Common.{◌≡◌, ◌+◌, ◌==◌, ◌∙◌, ap, arith}
 use Rattle.cove_base.specs.Tables.{entry_at}
-use Rattle.cove_stage2.specs.Lacked.{flag, slot_at}
+use Rattle.cove_stage2.specs.Lacked.{flag, slot_of_level}
 use Rattle.cove_stage2.proofs.LackedLemmas.{flag-most, absent_among-rest}
 use Rattle.cove_stage2.proofs.tables.Tables.absent.Goals as goal
 
@@ -13,8 +13,8 @@ loop-i-preserved g c =
     let i = c.loop-i.i in
     let kept = c.entry.ensures.unchanged in
     let before = c.loop-i.invariant.unchanged in
-    let here : c.flag-absent.result ≡ flag (entry_at pages root words (slot_at level (c.args.n + i)) == 0) =
-    c.flag-absent.ensures ∙ ap (λ e. flag (e == 0)) (c.entry.ensures.entry ∙ ap (λ ws. entry_at pages root ws (slot_at level (c.args.n + i))) before.words) in
+    let here : c.flag-absent.result ≡ flag (entry_at pages root words (slot_of_level level (c.args.n + i)) == 0) =
+    c.flag-absent.ensures ∙ ap (λ e. flag (e == 0)) (c.entry.ensures.entry ∙ ap (λ ws. entry_at pages root ws (slot_of_level level (c.args.n + i))) before.words) in
     let least = flag-most (c.entry.result == 0) in
     let rest = absent_among-rest pages root words level c.args.n i c.args.k c.loop-i-test.true in
     let counted = c.loop-i.invariant.counted in
