@@ -8,7 +8,7 @@ use Rattle.cove_base.specs.Places.{hart_word, table_word}
 use Rattle.cove_base.specs.Tables.{Slot, InRoot, InMiddle, InLast, IsLeaf, IsLink, IsLinkSlot, IsSlot, IsTree, Names, ByBlocked, ByPresent, below, entry_at, leaf_at, next_table}
 use Rattle.cove_base.specs.declared.numbers.Role.{Role}
 use Rattle.cove_base.specs.declared.numbers.Role.TheVariants.{Root, Table, Data}
-use Rattle.cove_clear.specs.Leaving.{AreCounted, AreGathered, Clears, IsOpen}
+use Rattle.cove_clear.specs.Clearing.{AreCounted, AreGathered, Clears, IsClearable}
 use Rattle.cove_model.proofs.Distinct.{distinct_filter}
 use Rattle.cove_model.proofs.LeafWords.{given_host, none_named}
 use Rattle.cove_model.proofs.Members.{false-true, has_not, has_with}
@@ -96,19 +96,19 @@ few_pages (suc n) ps apart low =
 
 -- ---- the count of a page of the host's
 
-module _ (pages harts : ℕ) (words : List ℕ) (t root : ℕ) (is_open : IsOpen pages harts words t root) (q before after : ℕ) (on : q < pages)
+module _ (pages harts : ℕ) (words : List ℕ) (t root : ℕ) (clearable : IsClearable pages harts words t root) (q before after : ℕ) (on : q < pages)
     (was : get_or words q 0 ≡ host before) (counts : after ≡ shared_leaves pages words q) where
   abbrev now : List ℕ
   now = set words q (host after)
 
   mine : AreOwned pages words t root
-  mine = is_open.owned t root is_open.root_is
+  mine = clearable.owned t root clearable.root_is
 
   size : 513 * pages ≤ length words
-  size = let is = is_open.size in omega arith
+  size = let is = clearable.size in omega arith
 
   small : q < 2 ^ 16
-  small = let few = is_open.few in omega arith
+  small = let few = clearable.few in omega arith
 
   other_page : (p : ℕ) → p ≢ q → get_or now p 0 ≡ get_or words p 0
   other_page p off = get_or-set_other words q p (host after) 0 off
@@ -124,7 +124,7 @@ module _ (pages harts : ℕ) (words : List ℕ) (t root : ℕ) (is_open : IsOpen
     where
       unnamed : after ≡ 0 → (u : ℕ) → LeafNames pages words u q → ⊥
       unnamed none u names =
-          let some = (leaf_shares u names.0 names.2.0 names.2.2.0 (is_open.owned u names.0 names.1) names.2.1 names.2.2.1).1 in
+          let some = (leaf_shares u names.0 names.2.0 names.2.2.0 (clearable.owned u names.0 names.1) names.2.1 names.2.2.1).1 in
           omega arith
 
   -- page words that give a page to a TVM stay
@@ -160,18 +160,18 @@ module _ (pages harts : ℕ) (words : List ℕ) (t root : ℕ) (is_open : IsOpen
 
   owned_now : (u r : ℕ) → IsRoot pages now u r → AreOwned pages now u r
   owned_now u r is =
-      let owned = is_open.owned u r (root_was u r is) in
+      let owned = clearable.owned u r (root_was u r is) in
       page_stored pages words u r owned q (host after) on
       (λ e. given_host u before Root (sym e ∙ was)) (λ e. given_host u after Root (sym e)) (λ e. given_host u before Table (sym e ∙ was))
       (behind_again u r owned) (let long = size in omega arith)
 
   tree_now : IsTree pages root now
   tree_now = record {
-    fits = is_open.tree.fits;
-    size = subst (λ n. 513 * pages ≤ n) (sym (length-set words q (host after))) is_open.tree.size;
-    links = λ b h. subst (IsLink pages root) (sym (same b h)) (is_open.tree.links b h);
-    leaves = λ g h. subst IsLeaf (sym (entries (InLast g) h)) (is_open.tree.leaves g h);
-    apart = λ b c p hb hc nb nc. is_open.tree.apart b c p hb hc (sym (same b hb) ∙ nb) (sym (same c hc) ∙ nc);
+    fits = clearable.tree.fits;
+    size = subst (λ n. 513 * pages ≤ n) (sym (length-set words q (host after))) clearable.tree.size;
+    links = λ b h. subst (IsLink pages root) (sym (same b h)) (clearable.tree.links b h);
+    leaves = λ g h. subst IsLeaf (sym (entries (InLast g) h)) (clearable.tree.leaves g h);
+    apart = λ b c p hb hc nb nc. clearable.tree.apart b c p hb hc (sym (same b hb) ∙ nb) (sym (same c hc) ∙ nc);
   } where
     same : (b : Slot) → IsLinkSlot b → entry_at pages root now b ≡ entry_at pages root words b
     same (InRoot n) h = entries (InRoot n) h
@@ -186,19 +186,19 @@ module _ (pages harts : ℕ) (words : List ℕ) (t root : ℕ) (is_open : IsOpen
   past : (k : ℕ) → pages ≤ k → get_or now k 0 ≡ get_or words k 0
   past k high = get_or-set_other words q k (host after) 0 (omega arith)
 
-  pub now_open : IsOpen pages harts now t root
+  pub now_open : IsClearable pages harts now t root
   now_open = record {
-    few = is_open.few;
-    size = length-set words q (host after) ∙ is_open.size;
-    left = λ hart h-on inside. is_open.left hart h-on (inside.0, (inside.1.0, sym (past (hart_word pages harts hart) (omega arith)) ∙ inside.1.1));
+    few = clearable.few;
+    size = length-set words q (host after) ∙ clearable.size;
+    left = λ hart h-on inside. clearable.left hart h-on (inside.0, (inside.1.0, sym (past (hart_word pages harts hart) (omega arith)) ∙ inside.1.1));
     root_is = record {
-      fits = is_open.root_is.fits;
-      roots = λ i low. given_stays (root + i) t Root (is_open.root_is.roots i low);
-      least = λ p low e. is_open.root_is.least p low (given_was p t Root e);
+      fits = clearable.root_is.fits;
+      roots = λ i low. given_stays (root + i) t Root (clearable.root_is.roots i low);
+      least = λ p low e. clearable.root_is.least p low (given_was p t Root e);
     };
     tree = tree_now;
     owned = owned_now;
-    once = λ g h p low high p-on first second. is_open.once g h p low high p-on (subst (Names p false) (entries (InLast g) low) first) (subst (Names p false) (entries (InLast h) high) second);
+    once = λ g h p low high p-on first second. clearable.once g h p low high p-on (subst (Names p false) (entries (InLast g) low) first) (subst (Names p false) (entries (InLast h) high) second);
   }
 
   pub now_gathered : (pool : List ℕ) → AreGathered pages words t root pool → AreGathered pages now t root pool
@@ -220,7 +220,7 @@ module _ (pages harts : ℕ) (words : List ℕ) (t root : ℕ) (is_open : IsOpen
   }
 
   shares_same : (p : ℕ) → shared_leaves pages now p ≡ shared_leaves pages words p
-  shares_same p = (stores_count_shared pages harts words p is_open.size).2 q (host after) (inl on)
+  shares_same p = (stores_count_shared pages harts words p clearable.size).2 q (host after) (inl on)
 
   -- every page counts, where the others did
   pub now_counted : ((p maps : ℕ) → p < pages → p ≢ q → get_or words p 0 ≡ host maps → maps ≡ shared_leaves pages words p) → AreCounted pages now

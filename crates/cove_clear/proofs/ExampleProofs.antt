@@ -8,7 +8,7 @@ use Rattle.cove_base.specs.Places.{all_words, epoch_word, hart_word, table_word}
 use Rattle.cove_base.specs.Tables.{Slot, InLast, IsLinkSlot, IsSlot, entry_at, leaf_at, next_table}
 use Rattle.cove_base.specs.declared.numbers.Role.TheVariants.{Root, Table, Data}
 use Rattle.cove_clear.proofs.Zeroing.{one_has}
-use Rattle.cove_clear.specs.Leaving.{AreCounted, AreGathered, Clears, IsLeaving, IsOpen, MayLeave, Proceeds}
+use Rattle.cove_clear.specs.Clearing.{AreCounted, AreGathered, Clears, IsBeingCleared, IsClearable, MayBeCleared, Proceeds}
 use Rattle.cove_model.proofs.LeafWords.{none_named}
 use Rattle.cove_model.proofs.Lists.{replicate_zero}
 use Rattle.cove_model.specs.LawfulStores.{AreOwned, ChangesTable, IsLeft, IsRoot, Rewrites}
@@ -68,8 +68,8 @@ owned u r is = record {
   backed = λ g page shared low small named. absurd (none_named page shared (leaf_at 8 r rooted g) (no_entry r (InLast g) low) named);
 }
 
-is_open : IsOpen 8 1 rooted 1 4
-is_open = record {
+clearable : IsClearable 8 1 rooted 1 4
+clearable = record {
   few = omega arith;
   size = size;
   left = nobody;
@@ -112,13 +112,13 @@ counted (suc (suc zero)) maps on is = absurd (omega arith)
 counted (suc (suc (suc zero))) maps on is = absurd (omega arith)
 counted (suc (suc (suc (suc p)))) maps on is = let root = root_word p (omega arith) in absurd (omega arith)
 
-pub leaving : IsLeaving 8 1 rooted 1 4 (2 ∷ [])
-leaving = record { is_open = is_open; gathered = gathered; counted = counted }
+pub leaving : IsBeingCleared 8 1 rooted 1 4 (2 ∷ [])
+leaving = record { clearable = clearable; gathered = gathered; counted = counted }
 
-pub not_inside : IsLeaving 8 1 entered 1 4 (2 ∷ []) → ⊥
-not_inside going = going.is_open.left 0 (omega arith) (0, (omega arith, get_or-set_same rooted 4123 (2 ^ 32) 0 (omega (arith, size))))
+pub not_inside : IsBeingCleared 8 1 entered 1 4 (2 ∷ []) → ⊥
+not_inside going = going.clearable.left 0 (omega arith) (0, (omega arith, get_or-set_same rooted 4123 (2 ^ 32) 0 (omega (arith, size))))
 
-pub not_miscounted : IsLeaving 8 1 (set rooted 0 (host 1)) 1 4 (2 ∷ []) → ⊥
+pub not_miscounted : IsBeingCleared 8 1 (set rooted 0 (host 1)) 1 4 (2 ∷ []) → ⊥
 not_miscounted going =
     let none : shared_leaves 8 (set rooted 0 (host 1)) 0 ≡ 0 = refl in
     let count : 1 ≡ shared_leaves 8 (set rooted 0 (host 1)) 0 = going.counted 0 1 (omega arith) refl in
@@ -201,10 +201,10 @@ not_the_epoch clears =
 
 -- ---- what a TVM goes on to
 
-pub allows_nothing : (words pool : List ℕ) → MayLeave (λ old place word. ⊥) 8 4 words pool → ⊥
+pub allows_nothing : (words pool : List ℕ) → MayBeCleared (λ old place word. ⊥) 8 4 words pool → ⊥
 allows_nothing words pool may =
-    let root = may.4.is_open.root_is.roots 0 (omega arith) in
-    may.5 words (table_word 8 4 0) 0 (ChangesTable may.1 4 0 (omega arith) (omega arith) refl (inl root) (Rewrites may.4.is_open.left))
+    let root = may.4.clearable.root_is.roots 0 (omega arith) in
+    may.5 words (table_word 8 4 0) 0 (ChangesTable may.1 4 0 (omega arith) (omega arith) refl (inl root) (Rewrites may.4.clearable.left))
 
 pub not_lost_on_the_way : Proceeds 8 4 rooted (2 ∷ []) rooted [] → ⊥
 not_lost_on_the_way on = not_lost (on 1 1 leaving).leaving.gathered

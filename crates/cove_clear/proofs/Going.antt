@@ -10,7 +10,7 @@ use Rattle.cove_base.specs.declared.numbers.Role.{Role}
 use Rattle.cove_base.specs.declared.numbers.Role.TheVariants.{Root, Table}
 use Rattle.cove_clear.proofs.Counting.{count_lawful, few_pages, link_same, now_clears, now_counted, now_gathered, now_open}
 use Rattle.cove_clear.proofs.Zeroing.{IsUnder, counts_stay, next_clears, next_open, next_other, next_shares, page_stays, shared_gathered, taken_gathered, zero_lawful}
-use Rattle.cove_clear.specs.Leaving.{AreGathered, Clears, Goes, IsLeaving, IsOpen, KeepsLinkSlots, LinksEmpty, MapsThere, MayLeave, Proceeds}
+use Rattle.cove_clear.specs.Clearing.{AreGathered, Clears, Goes, IsBeingCleared, IsClearable, KeepsLinkSlots, LinksEmpty, MapsThere, MayBeCleared, Proceeds}
 use Rattle.cove_model.proofs.LeafWords.{given_host}
 use Rattle.cove_model.proofs.OwnedStores.{stands_in}
 use Rattle.cove_model.proofs.SlotStores.{below_named}
@@ -92,16 +92,16 @@ proceeds_on pages root old pool mid between new left one two harts t leaving =
 
 -- the words allow the stores that are left
 pub may_on : (allows : List ℕ → ℕ → ℕ → Type 0) (pages root : ℕ) (old pool new left : List ℕ)
-    → MayLeave allows pages root old pool → Proceeds pages root old pool new left → MayLeave allows pages root new left
+    → MayBeCleared allows pages root old pool → Proceeds pages root old pool new left → MayBeCleared allows pages root new left
 may_on allows pages root old pool new left may on = (may.0, may.1, may.2, may.3, (on may.0 may.1 may.4).leaving, may.5)
 
 -- what is 0 stays so
-pub zero_on : (allows : List ℕ → ℕ → ℕ → Type 0) (pages root : ℕ) (old pool new left : List ℕ) → MayLeave allows pages root old pool → Proceeds pages root old pool new left
+pub zero_on : (allows : List ℕ → ℕ → ℕ → Type 0) (pages root : ℕ) (old pool new left : List ℕ) → MayBeCleared allows pages root old pool → Proceeds pages root old pool new left
     → (p i : ℕ) → p < pages → i < 512 → get_or old (table_word pages p i) 0 ≡ 0 → get_or new (table_word pages p i) 0 ≡ 0
 zero_on allows pages root old pool new left may on p i board low was = zero_still pages old new may.1 p i (on may.0 may.1 may.4).clears board low was
 
 -- one more word of a table is 0
-pub empty_more : (allows : List ℕ → ℕ → ℕ → Type 0) (pages root : ℕ) (old pool new left : List ℕ) → MayLeave allows pages root old pool → Proceeds pages root old pool new left
+pub empty_more : (allows : List ℕ → ℕ → ℕ → Type 0) (pages root : ℕ) (old pool new left : List ℕ) → MayBeCleared allows pages root old pool → Proceeds pages root old pool new left
     → (p i : ℕ) → p < pages → i < 512 → ((j : ℕ) → j < i → get_or old (table_word pages p j) 0 ≡ 0) → get_or new (table_word pages p i) 0 ≡ 0
     → (j : ℕ) → j < i + 1 → get_or new (table_word pages p j) 0 ≡ 0
 empty_more allows pages root old pool new left may on p i board low before here j under = elim (cases_eq j i) [
@@ -111,28 +111,28 @@ empty_more allows pages root old pool new left may on p i board low before here 
 
 -- ---- what the words say of a slot
 
-module _ (allows : List ℕ → ℕ → ℕ → Type 0) (pages root : ℕ) (words pool : List ℕ) (may : MayLeave allows pages root words pool) where
+module _ (allows : List ℕ → ℕ → ℕ → Type 0) (pages root : ℕ) (words pool : List ℕ) (may : MayBeCleared allows pages root words pool) where
   -- a table that a link names is on the board
   pub named_on : (a : Slot) (page : ℕ) → IsLinkSlot a → entry_at pages root words a ≡ next_table page → (page < pages) × (page < PAGE_LIMIT)
   named_on a page link named =
-      let few = may.4.is_open.few in
-      let on = ((may.4.is_open.owned may.1 root may.4.is_open.root_is).linked a page link named).0 in
+      let few = may.4.clearable.few in
+      let on = ((may.4.clearable.owned may.1 root may.4.clearable.root_is).linked a page link named).0 in
       (on, omega arith)
 
   -- the root is on the board
   pub root_on : root + 4 ≤ pages
-  root_on = may.4.is_open.root_is.fits
+  root_on = may.4.clearable.root_is.fits
 
   pub few_board : pages ≤ PAGE_LIMIT
-  few_board = may.4.is_open.few
+  few_board = may.4.clearable.few
 
   -- a slot stands at one of the words
   pub slot_fits : (a : Slot) (place : ℕ) → IsSlot a → StandsAt pages root words a place → place < length words
-  slot_fits a place slot at = stands-within pages root words may.4.is_open.tree a place slot at
+  slot_fits a place slot at = stands-within pages root words may.4.clearable.tree a place slot at
 
   -- the word of a leaf
   pub leaf_word_is : (g place word : ℕ) → g < 2 ^ 29 → StandsAt pages root words (InLast g) place → word ≡ get_or words place 0 → IsLeaf word
-  leaf_word_is g place word low at is = subst IsLeaf (entry-stands pages root words (InLast g) place at ∙ sym is) (may.4.is_open.tree.leaves g low)
+  leaf_word_is g place word low at is = subst IsLeaf (entry-stands pages root words (InLast g) place at ∙ sym is) (may.4.clearable.tree.leaves g low)
 
   -- and what it maps
   pub maps_there : (g place word page : ℕ) (shared kind : Bool) → g < 2 ^ 29 → StandsAt pages root words (InLast g) place → word ≡ get_or words place 0
@@ -151,7 +151,7 @@ module _ (allows : List ℕ → ℕ → ℕ → Type 0) (pages root : ℕ) (word
   -- the word of a link that is there names a table
   pub link_word : (a : Slot) (place word : ℕ) → IsLinkSlot a → StandsAt pages root words a place → word ≡ get_or words place 0 → word ≢ 0
       → (entry_at pages root words a ≡ next_table (word / 1024)) × (word / 1024 < pages)
-  link_word a place word link at is some = go (may.4.is_open.tree.links a link)
+  link_word a place word link at is some = go (may.4.clearable.tree.links a link)
     where
       same : entry_at pages root words a ≡ word
       same = entry-stands pages root words a place at ∙ sym is
@@ -167,7 +167,7 @@ module _ (allows : List ℕ → ℕ → ℕ → Type 0) (pages root : ℕ) (word
   pub roots_stay : (a : Slot) (page i place m : ℕ) → IsLinkSlot a → entry_at pages root words a ≡ next_table page → i < 512 → place ≡ table_word pages page i → m < 2048
       → entry_at pages root (set words place 0) (InRoot m) ≡ entry_at pages root words (InRoot m)
   roots_stay a page i place m link named low at m-low =
-      let out = named-outside pages root words may.4.is_open.tree a page link named in
+      let out = named-outside pages root words may.4.clearable.tree a page link named in
       get_or-set_other words place (table_word pages root m) 0 0
       (λ e. elim out.1 [ inl under ↦ omega arith | inr over ↦ omega arith ])
 
@@ -185,19 +185,19 @@ module _ (pages root : ℕ) (words pool : List ℕ) (place : ℕ) where
         below_named pages (entry_at pages root words (InMiddle (g / 512))) page (g % 512) words (ap (entry_at pages root words) up ∙ links.3)
         ∙ links.4 (g % 512) (omega arith)
 
-    module _ (harts t : ℕ) (leaving : IsLeaving pages harts words t root pool) where
+    module _ (harts t : ℕ) (leaving : IsBeingCleared pages harts words t root pool) where
       pub linked_on : page < pages
-      linked_on = ((leaving.is_open.owned t root leaving.is_open.root_is).linked links.0 page links.1 links.3).0
+      linked_on = ((leaving.clearable.owned t root leaving.clearable.root_is).linked links.0 page links.1 links.3).0
 
       pub linked_fits : place < length words
-      linked_fits = stands-within pages root words leaving.is_open.tree links.0 place (link-slot links.0 links.1) links.2
+      linked_fits = stands-within pages root words leaving.clearable.tree links.0 place (link-slot links.0 links.1) links.2
 
       pub linked_lawful : (hart : ℕ) (last : List ℕ) → IsLawful pages harts hart last words place 0
-      linked_lawful = zero_lawful pages harts words t root leaving.is_open links.0 place (link-slot links.0 links.1) links.2
+      linked_lawful = zero_lawful pages harts words t root leaving.clearable links.0 place (link-slot links.0 links.1) links.2
 
       linked_gathered : AreGathered pages (set words place 0) t root (pool ++ page ∷ [])
       linked_gathered =
-          taken_gathered pages harts words t root leaving.is_open links.0 place (link-slot links.0 links.1) links.2 bare pool leaving.gathered
+          taken_gathered pages harts words t root leaving.clearable links.0 place (link-slot links.0 links.1) links.2 bare pool leaving.gathered
           page linked_on (inl (links.1, links.3)) (λ link. links.4)
 
       pub linked_room : length pool < pages
@@ -209,13 +209,13 @@ module _ (pages root : ℕ) (words pool : List ℕ) (place : ℕ) where
       pub linked_goes : Goes pages harts t root words pool (set words place 0) (pool ++ page ∷ [])
       linked_goes = record {
         leaving = record {
-          is_open = next_open pages harts words t root leaving.is_open links.0 place (link-slot links.0 links.1) links.2;
+          clearable = next_open pages harts words t root leaving.clearable links.0 place (link-slot links.0 links.1) links.2;
           gathered = linked_gathered;
-          counted = counts_stay pages harts words t root leaving.is_open links.0 place (link-slot links.0 links.1) links.2
+          counted = counts_stay pages harts words t root leaving.clearable links.0 place (link-slot links.0 links.1) links.2
               (λ p. once_is p (entry_at pages root words links.0) false (not_shared p (entry_at pages root words links.0) 1 (let named = links.3 in omega arith) refl))
               leaving.counted;
         };
-        clears = next_clears pages harts words t root leaving.is_open links.0 place (link-slot links.0 links.1) links.2;
+        clears = next_clears pages harts words t root leaving.clearable links.0 place (link-slot links.0 links.1) links.2;
         lawful = λ hart last. ((place, 0) ∷ [], (linked_lawful hart last, tt), refl);
       }
 
@@ -226,9 +226,9 @@ module _ (pages root : ℕ) (words pool : List ℕ) (place : ℕ) where
   no_under g (InLast k) h up = absurd (middle≢last (k / 512) g up)
 
   -- a slot stands past the page words
-  place_past : (a : Slot) → IsSlot a → StandsAt pages root words a place → (harts t : ℕ) → IsLeaving pages harts words t root pool → pages ≤ place
+  place_past : (a : Slot) → IsSlot a → StandsAt pages root words a place → (harts t : ℕ) → IsBeingCleared pages harts words t root pool → pages ≤ place
   place_past a slot at harts t leaving =
-      let own = stands_in pages words t root (leaving.is_open.owned t root leaving.is_open.root_is) a place slot at in
+      let own = stands_in pages words t root (leaving.clearable.owned t root leaving.clearable.root_is) a place slot at in
       let is : place ≡ table_word pages own.page own.i = own.at in
       omega arith
 
@@ -241,19 +241,19 @@ module _ (pages root : ℕ) (words pool : List ℕ) (place : ℕ) where
     private_off p leaf (ByPresent is) = let word : leaf ≡ 1024 * page + 223 = is in not_shared p leaf 223 (omega arith) refl
     private_off p leaf (ByBlocked since is) = let word : leaf ≡ 1024 * page + 223 + 255 + 2 ^ 26 * since = is in not_shared p leaf 478 (omega arith) refl
 
-    module _ (harts t : ℕ) (leaving : IsLeaving pages harts words t root pool) where
+    module _ (harts t : ℕ) (leaving : IsBeingCleared pages harts words t root pool) where
       pub own_on : page < pages
-      own_on = ((leaving.is_open.owned t root leaving.is_open.root_is).backed guest page false maps.1.1 maps.0 maps.1.3).0
+      own_on = ((leaving.clearable.owned t root leaving.clearable.root_is).backed guest page false maps.1.1 maps.0 maps.1.3).0
 
       pub own_fits : place < length words
-      own_fits = stands-within pages root words leaving.is_open.tree (InLast guest) place maps.1.1 maps.1.2
+      own_fits = stands-within pages root words leaving.clearable.tree (InLast guest) place maps.1.1 maps.1.2
 
       pub own_lawful : (hart : ℕ) (last : List ℕ) → IsLawful pages harts hart last words place 0
-      own_lawful = zero_lawful pages harts words t root leaving.is_open (InLast guest) place maps.1.1 maps.1.2
+      own_lawful = zero_lawful pages harts words t root leaving.clearable (InLast guest) place maps.1.1 maps.1.2
 
       own_gathered : AreGathered pages (set words place 0) t root (pool ++ page ∷ [])
       own_gathered =
-          taken_gathered pages harts words t root leaving.is_open (InLast guest) place maps.1.1 maps.1.2 (no_under guest) pool leaving.gathered
+          taken_gathered pages harts words t root leaving.clearable (InLast guest) place maps.1.1 maps.1.2 (no_under guest) pool leaving.gathered
           page own_on (inr (guest, refl, maps.1.1, maps.1.3)) (λ link. absurd link)
 
       pub own_room : length pool < pages
@@ -264,17 +264,17 @@ module _ (pages root : ℕ) (words pool : List ℕ) (place : ℕ) where
 
       pub own_links : KeepsLinkSlots pages root words (set words place 0)
       own_links b link =
-          next_other pages harts words t root leaving.is_open (InLast guest) place maps.1.1 maps.1.2 (no_under guest) b (link-slot b link) (λ e. subst IsLinkSlot e link)
+          next_other pages harts words t root leaving.clearable (InLast guest) place maps.1.1 maps.1.2 (no_under guest) b (link-slot b link) (λ e. subst IsLinkSlot e link)
 
       pub own_goes : Goes pages harts t root words pool (set words place 0) (pool ++ page ∷ [])
       own_goes = record {
         leaving = record {
-          is_open = next_open pages harts words t root leaving.is_open (InLast guest) place maps.1.1 maps.1.2;
+          clearable = next_open pages harts words t root leaving.clearable (InLast guest) place maps.1.1 maps.1.2;
           gathered = own_gathered;
-          counted = counts_stay pages harts words t root leaving.is_open (InLast guest) place maps.1.1 maps.1.2
+          counted = counts_stay pages harts words t root leaving.clearable (InLast guest) place maps.1.1 maps.1.2
               (λ p. once_is p (leaf_at pages root words guest) false (private_off p (leaf_at pages root words guest) maps.1.3)) leaving.counted;
         };
-        clears = next_clears pages harts words t root leaving.is_open (InLast guest) place maps.1.1 maps.1.2;
+        clears = next_clears pages harts words t root leaving.clearable (InLast guest) place maps.1.1 maps.1.2;
         lawful = λ hart last. ((place, 0) ∷ [], (own_lawful hart last, tt), refl);
       }
 
@@ -291,30 +291,30 @@ module _ (pages root : ℕ) (words pool : List ℕ) (place : ℕ) where
     shares_by p leaf (ByBlocked since is) =
         let word : leaf ≡ 1024 * page + 215 + 255 + 2 ^ 26 * since = is in let small = maps.0 in is_shared p page leaf 470 (omega arith) refl (omega arith)
 
-    module _ (harts t : ℕ) (leaving : IsLeaving pages harts words t root pool) where
+    module _ (harts t : ℕ) (leaving : IsBeingCleared pages harts words t root pool) where
       behind : (page < pages) × ((count : ℕ) × (0 < count) × (get_or words page 0 ≡ host count))
-      behind = (leaving.is_open.owned t root leaving.is_open.root_is).backed shared_guest page true maps.1.1 maps.0 maps.1.3
+      behind = (leaving.clearable.owned t root leaving.clearable.root_is).backed shared_guest page true maps.1.1 maps.0 maps.1.3
 
       pub shared_on : page < pages
       shared_on = behind.0
 
       pub shared_fits : place < length words
-      shared_fits = stands-within pages root words leaving.is_open.tree (InLast shared_guest) place maps.1.1 maps.1.2
+      shared_fits = stands-within pages root words leaving.clearable.tree (InLast shared_guest) place maps.1.1 maps.1.2
 
       pub shared_lawful : (hart : ℕ) (last : List ℕ) → IsLawful pages harts hart last words place 0
-      shared_lawful = zero_lawful pages harts words t root leaving.is_open (InLast shared_guest) place maps.1.1 maps.1.2
+      shared_lawful = zero_lawful pages harts words t root leaving.clearable (InLast shared_guest) place maps.1.1 maps.1.2
 
-      shared_open : IsOpen pages harts cleared t root
-      shared_open = next_open pages harts words t root leaving.is_open (InLast shared_guest) place maps.1.1 maps.1.2
+      shared_open : IsClearable pages harts cleared t root
+      shared_open = next_open pages harts words t root leaving.clearable (InLast shared_guest) place maps.1.1 maps.1.2
 
       -- the count in the page word, and what it becomes
       still : get_or cleared page 0 ≡ host behind.1.0
-      still = page_stays pages harts words t root leaving.is_open (InLast shared_guest) place maps.1.1 maps.1.2 page shared_on ∙ behind.1.2
+      still = page_stays pages harts words t root leaving.clearable (InLast shared_guest) place maps.1.1 maps.1.2 page shared_on ∙ behind.1.2
 
       one_less : shared_leaves pages cleared page + 1 ≡ behind.1.0
       one_less =
           let count = leaving.counted page behind.1.0 shared_on behind.1.2 in
-          let step = next_shares pages harts words t root leaving.is_open (InLast shared_guest) place maps.1.1 maps.1.2 page in
+          let step = next_shares pages harts words t root leaving.clearable (InLast shared_guest) place maps.1.1 maps.1.2 page in
           let once : shared_once page (leaf_at pages root words shared_guest) ≡ 1 =
           once_is page (leaf_at pages root words shared_guest) true (shares_by page (leaf_at pages root words shared_guest) maps.1.3 ∙ eq-eqb page page refl) in
           omega arith
@@ -329,7 +329,7 @@ module _ (pages root : ℕ) (words pool : List ℕ) (place : ℕ) where
       lower_lawful = count_lawful pages harts cleared t root shared_open page behind.1.0 (shared_leaves pages cleared page) shared_on still refl
 
       pub count_fits : page < length cleared
-      count_fits = let on = shared_on in let size = leaving.is_open.size in let same = length-set words place 0 in omega arith
+      count_fits = let on = shared_on in let size = leaving.clearable.size in let same = length-set words place 0 in omega arith
 
       pub count_less : (count : ℕ) → count ≡ get_or cleared page 0 → (8 ≤ count) × (count - 8 ≡ host (shared_leaves pages cleared page))
       count_less count is = let word = count_word in (omega arith, omega arith)
@@ -343,27 +343,27 @@ module _ (pages root : ℕ) (words pool : List ℕ) (place : ℕ) where
       pub shared_links : KeepsLinkSlots pages root words lowered
       shared_links b link =
           link_same pages harts cleared t root shared_open page behind.1.0 (shared_leaves pages cleared page) shared_on still refl b link
-          ∙ next_other pages harts words t root leaving.is_open (InLast shared_guest) place maps.1.1 maps.1.2 (no_under shared_guest) b (link-slot b link) (λ e. subst IsLinkSlot e link)
+          ∙ next_other pages harts words t root leaving.clearable (InLast shared_guest) place maps.1.1 maps.1.2 (no_under shared_guest) b (link-slot b link) (λ e. subst IsLinkSlot e link)
 
       pub shared_goes : Goes pages harts t root words pool lowered pool
       shared_goes = record {
         leaving = record {
-          is_open = now_open pages harts cleared t root shared_open page behind.1.0 (shared_leaves pages cleared page) shared_on still refl;
+          clearable = now_open pages harts cleared t root shared_open page behind.1.0 (shared_leaves pages cleared page) shared_on still refl;
           gathered = now_gathered pages harts cleared t root shared_open page behind.1.0 (shared_leaves pages cleared page) shared_on still refl pool
-              (shared_gathered pages harts words t root leaving.is_open (InLast shared_guest) place maps.1.1 maps.1.2 (no_under shared_guest) pool leaving.gathered
+              (shared_gathered pages harts words t root leaving.clearable (InLast shared_guest) place maps.1.1 maps.1.2 (no_under shared_guest) pool leaving.gathered
               shared_guest page refl maps.1.1 maps.0 maps.1.3);
           counted = now_counted pages harts cleared t root shared_open page behind.1.0 (shared_leaves pages cleared page) shared_on still refl others;
         };
         clears = clears_on pages words cleared lowered t
-            (next_clears pages harts words t root leaving.is_open (InLast shared_guest) place maps.1.1 maps.1.2)
+            (next_clears pages harts words t root leaving.clearable (InLast shared_guest) place maps.1.1 maps.1.2)
             (now_clears pages harts cleared t root shared_open page behind.1.0 (shared_leaves pages cleared page) shared_on still refl);
         lawful = λ hart last.
             ((place, 0) ∷ (page, host (shared_leaves pages cleared page)) ∷ [], (shared_lawful hart last, (lower_lawful hart last, tt)), refl);
       } where
         others : (p count : ℕ) → p < pages → p ≢ page → get_or cleared p 0 ≡ host count → count ≡ shared_leaves pages cleared p
         others p count on off is =
-            let was = leaving.counted p count on (sym (page_stays pages harts words t root leaving.is_open (InLast shared_guest) place maps.1.1 maps.1.2 p on) ∙ is) in
-            let step = next_shares pages harts words t root leaving.is_open (InLast shared_guest) place maps.1.1 maps.1.2 p in
+            let was = leaving.counted p count on (sym (page_stays pages harts words t root leaving.clearable (InLast shared_guest) place maps.1.1 maps.1.2 p on) ∙ is) in
+            let step = next_shares pages harts words t root leaving.clearable (InLast shared_guest) place maps.1.1 maps.1.2 p in
             let none : shared_once p (leaf_at pages root words shared_guest) ≡ 0 =
             once_is p (leaf_at pages root words shared_guest) false (shares_by p (leaf_at pages root words shared_guest) maps.1.3 ∙ ne_eqb page p (λ e. off (sym e))) in
             omega arith
@@ -376,13 +376,13 @@ pub empty_none : (pages : ℕ) (words : List ℕ) (p : ℕ) → (j : ℕ) → j 
 empty_none pages words p j under = absurd (omega arith)
 
 -- one more word of the root is 0
-pub root_more : (allows : List ℕ → ℕ → ℕ → Type 0) (pages root : ℕ) (old pool new left : List ℕ) → MayLeave allows pages root old pool → Proceeds pages root old pool new left
+pub root_more : (allows : List ℕ → ℕ → ℕ → Type 0) (pages root : ℕ) (old pool new left : List ℕ) → MayBeCleared allows pages root old pool → Proceeds pages root old pool new left
     → (n : ℕ) → n < 2048 → ((j : ℕ) → j < n → get_or old (table_word pages root j) 0 ≡ 0) → get_or new (table_word pages root n) 0 ≡ 0
     → (j : ℕ) → j < n + 1 → get_or new (table_word pages root j) 0 ≡ 0
 root_more allows pages root old pool new left may on n low before here j under = elim (cases_eq j n) [
   | inl same ↦ ap (λ k. get_or new (table_word pages root k) 0) same ∙ here
   | inr off ↦
-      let fit = may.4.is_open.root_is.fits in
+      let fit = may.4.clearable.root_is.fits in
       let at : table_word pages (root + j / 512) (j % 512) ≡ table_word pages root j = omega arith in
       ap (λ k. get_or new k 0) (sym at)
       ∙ zero_on allows pages root old pool new left may on (root + j / 512) (j % 512) (omega arith) (omega arith) (ap (λ k. get_or old k 0) at ∙ before j (omega arith))

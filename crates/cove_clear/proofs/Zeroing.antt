@@ -7,7 +7,7 @@ use Rattle.cove_base.specs.PageWords.{given}
 use Rattle.cove_base.specs.Places.{hart_word, table_word}
 use Rattle.cove_base.specs.Tables.{Slot, InRoot, InMiddle, InLast, IsAbsent, IsLeaf, IsLink, NoTable, ATable, IsLinkSlot, IsSlot, IsTree, Names, ByBlocked, ByPresent, StandsAt, below, entry_at, leaf_at, next_table}
 use Rattle.cove_base.specs.declared.numbers.Role.TheVariants.{Table, Data}
-use Rattle.cove_clear.specs.Leaving.{AreCounted, AreGathered, Clears, IsOpen}
+use Rattle.cove_clear.specs.Clearing.{AreCounted, AreGathered, Clears, IsClearable}
 use Rattle.cove_model.proofs.Distinct.{distinct_append, has_left, has_right}
 use Rattle.cove_model.proofs.GuestStores.{zero_moves, zeros_keep_owned}
 use Rattle.cove_model.proofs.LeafWords.{blocked_named, given_role, none_named, present_named}
@@ -48,13 +48,13 @@ has_none x p pool out off = elim (cases_Bool (has p (pool ++ x ∷ []))) [
   | inr none ↦ none
 ]
 
-module _ (pages harts : ℕ) (words : List ℕ) (t root : ℕ) (is_open : IsOpen pages harts words t root) (a : Slot) (place : ℕ) (slot : IsSlot a)
+module _ (pages harts : ℕ) (words : List ℕ) (t root : ℕ) (clearable : IsClearable pages harts words t root) (a : Slot) (place : ℕ) (slot : IsSlot a)
     (at : StandsAt pages root words a place) where
   abbrev next : List ℕ
   next = set words place 0
 
   mine : AreOwned pages words t root
-  mine = is_open.owned t root is_open.root_is
+  mine = clearable.owned t root clearable.root_is
 
   own : IsOwnPlace pages words t place
   own = stands_in pages words t root mine a place slot at
@@ -67,7 +67,7 @@ module _ (pages harts : ℕ) (words : List ℕ) (t root : ℕ) (is_open : IsOpen
       (omega arith, omega arith)
 
   fits : place < length words
-  fits = let size = is_open.size in let high = within.1 in omega arith
+  fits = let size = clearable.size in let high = within.1 in omega arith
 
   pub page_stays : (p : ℕ) → p < pages → get_or next p 0 ≡ get_or words p 0
   page_stays p low = let past = within.0 in get_or-set_other words place p 0 0 (omega arith)
@@ -77,7 +77,7 @@ module _ (pages harts : ℕ) (words : List ℕ) (t root : ℕ) (is_open : IsOpen
 
   -- the store is lawful
   pub zero_lawful : (hart : ℕ) (old : List ℕ) → IsLawful pages harts hart old words place 0
-  zero_lawful hart old = ChangesTable t own.page own.i own.below own.low own.at own.own (Rewrites is_open.left)
+  zero_lawful hart old = ChangesTable t own.page own.i own.below own.low own.at own.own (Rewrites clearable.left)
 
   -- ---- an entry stays, or is 0
 
@@ -105,34 +105,34 @@ module _ (pages harts : ℕ) (words : List ℕ) (t root : ℕ) (is_open : IsOpen
 
   next_tree : IsTree pages root next
   next_tree = record {
-    fits = is_open.tree.fits;
-    size = subst (λ n. 513 * pages ≤ n) (sym (length-set words place 0)) is_open.tree.size;
+    fits = clearable.tree.fits;
+    size = subst (λ n. 513 * pages ≤ n) (sym (length-set words place 0)) clearable.tree.size;
     links = λ b h. elim (moves root b) [
-      | inl same ↦ subst (IsLink pages root) (sym same) (is_open.tree.links b h)
+      | inl same ↦ subst (IsLink pages root) (sym same) (clearable.tree.links b h)
       | inr gone ↦ NoTable gone
     ];
     leaves = λ g h. elim (moves root (InLast g)) [
-      | inl same ↦ subst IsLeaf (sym same) (is_open.tree.leaves g h)
+      | inl same ↦ subst IsLeaf (sym same) (clearable.tree.leaves g h)
       | inr gone ↦ IsAbsent gone
     ];
-    apart = λ b c q hb hc nb nc. is_open.tree.apart b c q hb hc (link_was root b q nb) (link_was root c q nc);
+    apart = λ b c q hb hc nb nc. clearable.tree.apart b c q hb hc (link_was root b q nb) (link_was root c q nc);
   }
 
-  pub next_open : IsOpen pages harts next t root
+  pub next_open : IsClearable pages harts next t root
   next_open = record {
-    few = is_open.few;
-    size = length-set words place 0 ∙ is_open.size;
-    left = λ hart on inside. is_open.left hart on (inside.0, (inside.1.0, sym (behind (hart_word pages harts hart) (omega arith)) ∙ inside.1.1));
+    few = clearable.few;
+    size = length-set words place 0 ∙ clearable.size;
+    left = λ hart on inside. clearable.left hart on (inside.0, (inside.1.0, sym (behind (hart_word pages harts hart) (omega arith)) ∙ inside.1.1));
     root_is = record {
-      fits = is_open.root_is.fits;
-      roots = λ i low. let fit = is_open.root_is.fits in page_stays (root + i) (omega arith) ∙ is_open.root_is.roots i low;
-      least = λ p low e. let fit = is_open.root_is.fits in is_open.root_is.least p low (sym (page_stays p (omega arith)) ∙ e);
+      fits = clearable.root_is.fits;
+      roots = λ i low. let fit = clearable.root_is.fits in page_stays (root + i) (omega arith) ∙ clearable.root_is.roots i low;
+      least = λ p low e. let fit = clearable.root_is.fits in clearable.root_is.least p low (sym (page_stays p (omega arith)) ∙ e);
     };
     tree = next_tree;
     owned = λ u r is.
         subst (λ k. AreOwned pages (set words k 0) u r) (sym own.at)
-        (zeros_keep_owned pages harts words own.page own.i u r is_open.size own.below own.low (is_open.owned u r (root_was u r is)));
-    once = λ g h p low high on first second. is_open.once g h p low high on (name_was root g p false first) (name_was root h p false second);
+        (zeros_keep_owned pages harts words own.page own.i u r clearable.size own.below own.low (clearable.owned u r (root_was u r is)));
+    once = λ g h p low high on first second. clearable.once g h p low high on (name_was root g p false first) (name_was root h p false second);
   }
 
   pub next_clears : Clears pages words next t
@@ -153,7 +153,7 @@ module _ (pages harts : ℕ) (words : List ℕ) (t root : ℕ) (is_open : IsOpen
   -- the leaves that share a page are as many less as the word did
   pub next_shares : (p : ℕ) → shared_leaves pages next p + shared_once p (entry_at pages root words a) ≡ shared_leaves pages words p
   next_shares p =
-      let step = (stores_count_shared pages harts words p is_open.size).1 place 0 within.0 within.1 in
+      let step = (stores_count_shared pages harts words p clearable.size).1 place 0 within.0 within.1 in
       let was : shared_once p (entry_at pages root words a) ≡ shared_once p (get_or words place 0) = ap (shared_once p) (entry-stands pages root words a place at) in
       let none : shared_once p 0 ≡ 0 = refl in
       omega arith
@@ -164,7 +164,7 @@ module _ (pages harts : ℕ) (words : List ℕ) (t root : ℕ) (is_open : IsOpen
     under : (u : Slot) (i : ℕ) → IsLinkSlot u → entry_at pages root next u ≡ entry_at pages root words u
         → ((page : ℕ) → entry_at pages root words u ≡ next_table page → place ≢ table_word pages page i)
         → below pages next (entry_at pages root next u) i ≡ below pages words (entry_at pages root words u) i
-    under u i link same apart = ap (λ k. below pages next k i) same ∙ go (is_open.tree.links u link)
+    under u i link same apart = ap (λ k. below pages next k i) same ∙ go (clearable.tree.links u link)
       where
         go : IsLink pages root (entry_at pages root words u) → below pages next (entry_at pages root words u) i ≡ below pages words (entry_at pages root words u) i
         go (NoTable e) =
@@ -177,12 +177,12 @@ module _ (pages harts : ℕ) (words : List ℕ) (t root : ℕ) (is_open : IsOpen
     root_other : (n : ℕ) → n < 2048 → InRoot n ≢ a → entry_at pages root next (InRoot n) ≡ entry_at pages root words (InRoot n)
     root_other n h off =
         get_or-set_other words place (table_word pages root n) 0 0
-        (λ e. off (stand-apart pages root words is_open.tree (InRoot n) a place h slot (sym e) at))
+        (λ e. off (stand-apart pages root words clearable.tree (InRoot n) a place h slot (sym e) at))
 
     middle_still : (n : ℕ) → n < 2 ^ 20 → InMiddle n ≢ a → InRoot (n / 512) ≢ a → entry_at pages root next (InMiddle n) ≡ entry_at pages root words (InMiddle n)
     middle_still n h off above =
         under (InRoot (n / 512)) (n % 512) (omega arith) (root_other (n / 512) (omega arith) above)
-        (λ page named q. off (stand-apart pages root words is_open.tree (InMiddle n) a place h slot (page, named, q) at))
+        (λ page named q. off (stand-apart pages root words clearable.tree (InMiddle n) a place h slot (page, named, q) at))
 
     here_of : (b : Slot) → IsSlot b → StandsAt pages root words b place → b ≡ a → entry_at pages root next b ≡ 0
     here_of (InRoot n) h st e = ap (λ p. get_or next p 0) (sym st) ∙ get_or-set_same words place 0 0 fits
@@ -212,7 +212,7 @@ module _ (pages harts : ℕ) (words : List ℕ) (t root : ℕ) (is_open : IsOpen
       | inl up ↦
           ap (λ k. below pages next k (g % 512)) (ap (entry_at pages root next) up ∙ next_here) ∙ below-absent pages next (g % 512) ∙ sym (bare (InLast g) h up)
       | inr off_middle ↦ under (InMiddle (g / 512)) (g % 512) (omega arith) (middle_other (g / 512) (omega arith) off_middle)
-          (λ page named q. off (stand-apart pages root words is_open.tree (InLast g) a place h slot (page, named, q) at))
+          (λ page named q. off (stand-apart pages root words clearable.tree (InLast g) a place h slot (page, named, q) at))
     ]
 
     module _ (pool : List ℕ) (gathered : AreGathered pages words t root pool) where
@@ -250,7 +250,7 @@ module _ (pages harts : ℕ) (words : List ℕ) (t root : ℕ) (is_open : IsOpen
           memory = λ p on is. elim (gathered.memory p on (sym (page_stays p on) ∙ is)) [
             | inl there ↦ inl there
             | inr mapped ↦
-                let few = is_open.few in
+                let few = clearable.few in
                 let off : InLast mapped.0 ≢ a = λ e.
                 let same = last-number mapped.0 g (e ∙ is_leaf) in
                 let both = one_named p q false true (leaf_at pages root words g) (omega arith) small (subst (λ h. Names p false (leaf_at pages root words h)) same mapped.2) names in
@@ -268,7 +268,7 @@ module _ (pages harts : ℕ) (words : List ℕ) (t root : ℕ) (is_open : IsOpen
 
       module _ (x : ℕ) (on : x < pages) (taken : IsTaken x) (zeros : IsLinkSlot a → (i : ℕ) → i < 512 → get_or words (table_word pages x i) 0 ≡ 0) where
         x-small : x < 2 ^ 16
-        x-small = let few = is_open.few in omega arith
+        x-small = let few = clearable.few in omega arith
 
         -- its word
         linked_word : (b : Slot) → IsLinkSlot b → entry_at pages root words b ≡ next_table x → get_or words x 0 ≡ given t Table
@@ -302,7 +302,7 @@ module _ (pages harts : ℕ) (words : List ℕ) (t root : ℕ) (is_open : IsOpen
         no_link : (b : Slot) → IsLinkSlot b → entry_at pages root next b ≡ next_table x → ⊥
         no_link b link named = elim taken [
           | inl one ↦
-              let same = is_open.tree.apart b a x link one.0 (link_was root b x named) one.1 in
+              let same = clearable.tree.apart b a x link one.0 (link_was root b x named) one.1 in
               let none : 0 ≡ next_table x = sym (ap (entry_at pages root next) same ∙ next_here) ∙ named in
               omega arith
           | inr leaf ↦ not_both (linked_word b link (link_was root b x named)) (mapped_word leaf.0 leaf.2 leaf.3)
@@ -312,7 +312,7 @@ module _ (pages harts : ℕ) (words : List ℕ) (t root : ℕ) (is_open : IsOpen
         no_leaf g low named = elim taken [
           | inl one ↦ not_both (linked_word a one.0 one.1) (mapped_word g low (name_was root g x false named))
           | inr leaf ↦
-              let same = is_open.once g leaf.0 x low leaf.2 on (name_was root g x false named) leaf.3 in
+              let same = clearable.once g leaf.0 x low leaf.2 on (name_was root g x false named) leaf.3 in
               none_named x false (leaf_at pages root next g) (ap (λ h. leaf_at pages root next h) same ∙ ap (entry_at pages root next) (sym leaf.1) ∙ next_here) named
         ]
 
@@ -340,7 +340,7 @@ module _ (pages harts : ℕ) (words : List ℕ) (t root : ℕ) (is_open : IsOpen
           | inl same ↦ elim taken [
             | inl one ↦ absurd (subst IsLinkSlot (sym same) one.0)
             | inr leaf ↦
-                let few = is_open.few in
+                let few = clearable.few in
                 let is = last-number g leaf.0 (same ∙ leaf.1) in
                 let both = one_named x p false false (leaf_at pages root words leaf.0) x-small (omega arith) leaf.3
                 (subst (λ h. Names p false (leaf_at pages root words h)) is named) in

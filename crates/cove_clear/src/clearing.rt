@@ -7,15 +7,16 @@ ghost use Rattle.std.specs.Prelude.{◌≡◌, ◌%◌, ◌/◌, ◌^◌, ◌<�
 ghost use Rattle.cove_base.specs.PageWords.{host};
 ghost use Rattle.cove_base.specs.Places.{table_word};
 ghost use Rattle.cove_base.specs.Tables.{InMiddle, InRoot, IsLeaf, entry_at, next_table};
-ghost use Rattle.cove_clear.specs.Leaving.{IsEmptyTable, KeepsLinkSlots, LinksEmpty, MapsThere, MayLeave, NamedBy, Proceeds};
+ghost use Rattle.cove_clear.specs.Clearing.{IsEmptyTable, KeepsLinkSlots, LinksEmpty, MapsThere, MayBeCleared, NamedBy, Proceeds};
 ghost use Rattle.cove_model.specs.TableLaw.{shared_leaves};
 
 use cove_base::{Page, Words, page_word, table_word};
 use cove_stage2::{Leaf, Pool, Tables, decode};
 
-/// Clears the tables of a TVM, and gathers their pages and those of its memory.
+/// Clears the tables of a TVM that is being destroyed, and gathers in `pool` the pages of its memory and of its tables, but for
+/// the root's.
 pub fn clear_tables<W: Words>(w: &mut W, tables: &Tables, pool: &mut Pool)
-    requires leaving { MayLeave (W.allows (W.guard w.old)) tables.now.pages tables.now.root.0 (W.words w.old) pool.old.pages }
+    requires leaving { MayBeCleared (W.allows (W.guard w.old)) tables.now.pages tables.now.root.0 (W.words w.old) pool.old.pages }
     requires room { pool.old.room ≡ tables.now.pages }
     ensures proceeds { Proceeds tables.now.pages tables.now.root.0 (W.words w.old) pool.old.pages (W.words w.new) pool.new.pages }
     ensures empty { (n : ℕ) → n < 2048 → slice_index (W.words w.new) (table_word tables.now.pages tables.now.root.0 n) ≡ 0 }
@@ -30,7 +31,7 @@ pub fn clear_tables<W: Words>(w: &mut W, tables: &Tables, pool: &mut Pool)
 // Clears an entry of the root, and what is under it.
 fn clear_branch<W: Words>(w: &mut W, tables: &Tables, pool: &mut Pool, n: u32)
     requires slot { n < 2048 }
-    requires leaving { MayLeave (W.allows (W.guard w.old)) tables.now.pages tables.now.root.0 (W.words w.old) pool.old.pages }
+    requires leaving { MayBeCleared (W.allows (W.guard w.old)) tables.now.pages tables.now.root.0 (W.words w.old) pool.old.pages }
     requires room { pool.old.room ≡ tables.now.pages }
     ensures proceeds { Proceeds tables.now.pages tables.now.root.0 (W.words w.old) pool.old.pages (W.words w.new) pool.new.pages }
     ensures empty { slice_index (W.words w.new) (table_word tables.now.pages tables.now.root.0 n) ≡ 0 }
@@ -50,7 +51,7 @@ fn clear_branch<W: Words>(w: &mut W, tables: &Tables, pool: &mut Pool, n: u32)
 fn clear_middle<W: Words>(w: &mut W, tables: &Tables, pool: &mut Pool, table: Page, n: u32)
     requires slot { n < 2048 }
     requires named { entry_at tables.now.pages tables.now.root.0 (W.words w.old) (InRoot n) ≡ next_table table.0 }
-    requires leaving { MayLeave (W.allows (W.guard w.old)) tables.now.pages tables.now.root.0 (W.words w.old) pool.old.pages }
+    requires leaving { MayBeCleared (W.allows (W.guard w.old)) tables.now.pages tables.now.root.0 (W.words w.old) pool.old.pages }
     requires room { pool.old.room ≡ tables.now.pages }
     ensures proceeds { Proceeds tables.now.pages tables.now.root.0 (W.words w.old) pool.old.pages (W.words w.new) pool.new.pages }
     ensures empty { IsEmptyTable tables.now.pages (W.words w.new) table.0 }
@@ -68,7 +69,7 @@ fn clear_middle<W: Words>(w: &mut W, tables: &Tables, pool: &mut Pool, table: Pa
 fn clear_twig<W: Words>(w: &mut W, tables: &Tables, pool: &mut Pool, table: Page, n: u32)
     requires slot { n < 2 ^ 20 }
     requires named { entry_at tables.now.pages tables.now.root.0 (W.words w.old) (InRoot (n / 512)) ≡ next_table table.0 }
-    requires leaving { MayLeave (W.allows (W.guard w.old)) tables.now.pages tables.now.root.0 (W.words w.old) pool.old.pages }
+    requires leaving { MayBeCleared (W.allows (W.guard w.old)) tables.now.pages tables.now.root.0 (W.words w.old) pool.old.pages }
     requires room { pool.old.room ≡ tables.now.pages }
     ensures proceeds { Proceeds tables.now.pages tables.now.root.0 (W.words w.old) pool.old.pages (W.words w.new) pool.new.pages }
     ensures empty { slice_index (W.words w.new) (table_word tables.now.pages table.0 (n % 512)) ≡ 0 }
@@ -90,7 +91,7 @@ fn clear_twig<W: Words>(w: &mut W, tables: &Tables, pool: &mut Pool, table: Page
 fn clear_last<W: Words>(w: &mut W, tables: &Tables, pool: &mut Pool, table: Page, n: u32)
     requires slot { n < 2 ^ 20 }
     requires named { entry_at tables.now.pages tables.now.root.0 (W.words w.old) (InMiddle n) ≡ next_table table.0 }
-    requires leaving { MayLeave (W.allows (W.guard w.old)) tables.now.pages tables.now.root.0 (W.words w.old) pool.old.pages }
+    requires leaving { MayBeCleared (W.allows (W.guard w.old)) tables.now.pages tables.now.root.0 (W.words w.old) pool.old.pages }
     requires room { pool.old.room ≡ tables.now.pages }
     ensures proceeds { Proceeds tables.now.pages tables.now.root.0 (W.words w.old) pool.old.pages (W.words w.new) pool.new.pages }
     ensures empty { IsEmptyTable tables.now.pages (W.words w.new) table.0 }
@@ -107,7 +108,7 @@ fn clear_last<W: Words>(w: &mut W, tables: &Tables, pool: &mut Pool, table: Page
 fn clear_leaf<W: Words>(w: &mut W, tables: &Tables, pool: &mut Pool, table: Page, g: u32)
     requires guest { g < 2 ^ 29 }
     requires named { entry_at tables.now.pages tables.now.root.0 (W.words w.old) (InMiddle (g / 512)) ≡ next_table table.0 }
-    requires leaving { MayLeave (W.allows (W.guard w.old)) tables.now.pages tables.now.root.0 (W.words w.old) pool.old.pages }
+    requires leaving { MayBeCleared (W.allows (W.guard w.old)) tables.now.pages tables.now.root.0 (W.words w.old) pool.old.pages }
     requires room { pool.old.room ≡ tables.now.pages }
     ensures proceeds { Proceeds tables.now.pages tables.now.root.0 (W.words w.old) pool.old.pages (W.words w.new) pool.new.pages }
     ensures empty { slice_index (W.words w.new) (table_word tables.now.pages table.0 (g % 512)) ≡ 0 }
@@ -131,7 +132,7 @@ fn clear_leaf<W: Words>(w: &mut W, tables: &Tables, pool: &mut Pool, table: Page
 // Unlinks an empty table, and gathers its page.
 fn unlink<W: Words>(w: &mut W, tables: &Tables, pool: &mut Pool, place: u32, table: Page)
     requires table { LinksEmpty tables.now.pages tables.now.root.0 (W.words w.old) place table.0 }
-    requires leaving { MayLeave (W.allows (W.guard w.old)) tables.now.pages tables.now.root.0 (W.words w.old) pool.old.pages }
+    requires leaving { MayBeCleared (W.allows (W.guard w.old)) tables.now.pages tables.now.root.0 (W.words w.old) pool.old.pages }
     requires room { pool.old.room ≡ tables.now.pages }
     ensures proceeds { Proceeds tables.now.pages tables.now.root.0 (W.words w.old) pool.old.pages (W.words w.new) pool.new.pages }
     ensures words { W.words w.new ≡ slice_set (W.words w.old) place 0 }
@@ -145,7 +146,7 @@ fn unlink<W: Words>(w: &mut W, tables: &Tables, pool: &mut Pool, place: u32, tab
 // Unmaps a page of the TVM's memory, and gathers it.
 fn unmap_own<W: Words>(w: &mut W, tables: &Tables, pool: &mut Pool, place: u32, page: Page)
     requires leaf { MapsThere tables.now.pages tables.now.root.0 (W.words w.old) place page.0 false }
-    requires leaving { MayLeave (W.allows (W.guard w.old)) tables.now.pages tables.now.root.0 (W.words w.old) pool.old.pages }
+    requires leaving { MayBeCleared (W.allows (W.guard w.old)) tables.now.pages tables.now.root.0 (W.words w.old) pool.old.pages }
     requires room { pool.old.room ≡ tables.now.pages }
     ensures proceeds { Proceeds tables.now.pages tables.now.root.0 (W.words w.old) pool.old.pages (W.words w.new) pool.new.pages }
     ensures words { W.words w.new ≡ slice_set (W.words w.old) place 0 }
@@ -159,7 +160,7 @@ fn unmap_own<W: Words>(w: &mut W, tables: &Tables, pool: &mut Pool, place: u32, 
 // Unmaps a page of the host's, which then counts a mapping less.
 fn unmap_shared<W: Words>(w: &mut W, tables: &Tables, pool: &mut Pool, place: u32, page: Page)
     requires leaf { MapsThere tables.now.pages tables.now.root.0 (W.words w.old) place page.0 true }
-    requires leaving { MayLeave (W.allows (W.guard w.old)) tables.now.pages tables.now.root.0 (W.words w.old) pool.old.pages }
+    requires leaving { MayBeCleared (W.allows (W.guard w.old)) tables.now.pages tables.now.root.0 (W.words w.old) pool.old.pages }
     ensures proceeds { Proceeds tables.now.pages tables.now.root.0 (W.words w.old) pool.old.pages (W.words w.new) pool.new.pages }
     ensures words { W.words w.new
         ≡ slice_set (slice_set (W.words w.old) place 0) page.0

@@ -1,23 +1,24 @@
-//! Worked examples, which the checker computes: what each definition of this crate says yes to, and what it says no to.
+//! Worked examples, which the checker computes: what the definitions in the contract of `clear_tables` say yes to, and what they
+//! say no to.
 
 ghost use Rattle.std.specs.Prelude.{◌≡◌, ℕ, List, [], ◌∷◌, slice_set};
 ghost use Rattle.cove_base.specs.PageWords.{given, host, released};
 ghost use Rattle.cove_base.specs.Places.{epoch_word, table_word};
 ghost use Rattle.cove_base.specs.Tables.{IsLinkSlot, Slot, entry_at, next_table};
 ghost use Rattle.cove_base.specs.declared.numbers.Role.TheVariants.{Data};
-ghost use Rattle.cove_clear.specs.Leaving.{AreGathered, Clears, IsLeaving, MayLeave, Proceeds};
+ghost use Rattle.cove_clear.specs.Clearing.{AreGathered, Clears, IsBeingCleared, MayBeCleared, Proceeds};
 ghost use Rattle.cove_model.specs.LawfulStores.{IsLawful};
 ghost use Rattle.cove_model.specs.TableExamples.{entered, rooted};
 
 /// TVM 1 may be destroyed further where page 2 of its memory, which no leaf names, was gathered; not where a hart is inside, or
-/// where page 0 of the host's counts a leaf that is none.
-pub fn worked_leaving()
-    ensures leaving { IsLeaving 8 1 rooted 1 4 (2 ∷ []) }
-    ensures inside { IsLeaving 8 1 entered 1 4 (2 ∷ []) → ⊥ }
-    ensures lost { IsLeaving 8 1 rooted 1 4 [] → ⊥ }
-    ensures miscounted { IsLeaving 8 1 (slice_set rooted 0 (host 1)) 1 4 (2 ∷ []) → ⊥ }
-    ensures may { MayLeave (IsLawful 8 1 0 rooted) 8 4 rooted (2 ∷ []) }
-    ensures may_not { (words pool : List ℕ) → MayLeave (λ old place word. ⊥) 8 4 words pool → ⊥ }
+/// where page 0 of the host's counts a leaf that is none. Its words must allow every lawful store.
+pub fn worked_being_cleared()
+    ensures leaving { IsBeingCleared 8 1 rooted 1 4 (2 ∷ []) }
+    ensures inside { IsBeingCleared 8 1 entered 1 4 (2 ∷ []) → ⊥ }
+    ensures lost { IsBeingCleared 8 1 rooted 1 4 [] → ⊥ }
+    ensures miscounted { IsBeingCleared 8 1 (slice_set rooted 0 (host 1)) 1 4 (2 ∷ []) → ⊥ }
+    ensures may { MayBeCleared (IsLawful 8 1 0 rooted) 8 4 rooted (2 ∷ []) }
+    ensures may_not { (words pool : List ℕ) → MayBeCleared (λ old place word. ⊥) 8 4 words pool → ⊥ }
 {}
 
 /// Each page of the TVM's tables and memory is gathered once, or named by an entry; no other page is.

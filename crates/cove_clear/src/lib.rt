@@ -10,4 +10,4 @@ mod clearing;
 mod examples;
 
 pub use clearing::clear_tables;
-pub use examples::{worked_clearing, worked_gathering, worked_going, worked_leaving};
+pub use examples::{worked_being_cleared, worked_clearing, worked_gathering, worked_going};

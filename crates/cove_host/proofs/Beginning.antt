@@ -10,7 +10,7 @@ use Rattle.cove_base.specs.Places.{hart_word}
 use Rattle.cove_base.specs.Tables.{Slot, InMiddle, IsLinkSlot, Names, entry_at, leaf_at, next_table, present}
 use Rattle.cove_base.specs.declared.numbers.Role.TheVariants.{Root, Table, Data}
 use Rattle.cove_clear.proofs.Counting.{leaf_counts}
-use Rattle.cove_clear.specs.Leaving.{AreCounted, AreGathered, IsLeaving}
+use Rattle.cove_clear.specs.Clearing.{AreCounted, AreGathered, IsBeingCleared}
 use Rattle.cove_host.specs.Inside.{is_inside}
 use Rattle.cove_model.proofs.KeyedLemmas.{at_key}
 use Rattle.cove_model.proofs.LeafWords.{blocked_named, given_host, given_role, none_named, present_named}
@@ -256,9 +256,9 @@ module _ (words : List ℕ) (G : Ground) (S : MonitorState) (stands : Stands wor
 
   pub begins_leaving : IsOrderly S → (t : ℕ) (tvm : Tvm) (model : ModelTvm) → 1 ≤ t → LiveStands G.pages G.harts words t S.seats G.files tvm model → find_tvm S t ≡ Some model
       → ((hart : ℕ) → hart < G.harts → is_inside G.pages G.harts words t hart ≡ false)
-      → IsLeaving G.pages G.harts words t tvm.tables.root.0 tvm.pool.pages
+      → IsBeingCleared G.pages G.harts words t tvm.tables.root.0 tvm.pool.pages
   begins_leaving orderly t tvm model low live found none = record {
-    is_open = record {
+    clearable = record {
       few = let limit = tvm.tables.limit in let board = live.board in omega arith;
       size = stands.words_stand.stands.size;
       left = none_inside t low none;

@@ -8,7 +8,7 @@ use Rattle.cove_base.specs.Stores.{AllAllowed, stored}
 use Rattle.cove_base.specs.declared.calls.HostCall.TheVariants.{Destroy}
 use Rattle.cove_base.specs.declared.statuses.Status.TheVariants.{Success}
 use Rattle.cove_stage2.proofs.LawfulLemmas.{leads_on}
-use Rattle.cove_clear.specs.Leaving.{Goes, IsLeaving, MayLeave, Proceeds}
+use Rattle.cove_clear.specs.Clearing.{Goes, IsBeingCleared, MayBeCleared, Proceeds}
 use Rattle.cove_host.proofs.Beginning.{begins_leaving}
 use Rattle.cove_host.proofs.CheckedLemmas.{each_passes, none_fails}
 use Rattle.cove_host.proofs.LifeTold.{both_live}
@@ -43,7 +43,7 @@ module _ (allows : List ℕ → ℕ → ℕ → Type 0) (words : List ℕ) (tvm 
   abbrev root : ℕ
   root = tvm.tables.root.0
 
-  pub may_leave : MayLeave allows tvm.tables.pages tvm.tables.root.0 words tvm.pool.pages
+  pub may_leave : MayBeCleared allows tvm.tables.pages tvm.tables.root.0 words tvm.pool.pages
   may_leave = (may.0, may.1, may.2, may.3, may.4.leaving, may.5)
 
   pub room_is : tvm.pool.room ≡ tvm.tables.pages
@@ -62,16 +62,16 @@ module _ (allows : List ℕ → ℕ → ℕ → Type 0) (words : List ℕ) (tvm 
         let now = goes may.0 may.1 may.4 in
         let on =
         (all_own pages may.0 words mid may.1 may.4.seats may.4.files tvm may.4.model pool may.4.live now.leaving now.clears empty p there).0 in
-        let size = now.leaving.is_open.size in
-        let few = now.leaving.is_open.few in
+        let size = now.leaving.clearable.size in
+        let few = now.leaving.clearable.few in
         (omega arith, omega arith)
 
     pub ending_root : (root + 4 ≤ 2 ^ 16) × (root + 4 ≤ length mid)
     ending_root =
         let now = goes may.0 may.1 may.4 in
-        let fits = now.leaving.is_open.root_is.fits in
-        let size = now.leaving.is_open.size in
-        let few = now.leaving.is_open.few in
+        let fits = now.leaving.clearable.root_is.fits in
+        let size = now.leaving.clearable.size in
+        let few = now.leaving.clearable.few in
         (omega arith, omega arith)
 
     pub ending_allowed : AllAllowed allows mid (release_stores all)
@@ -120,7 +120,7 @@ module _ (words : List ℕ) (G : Ground) (hart t : ℕ) (ready : IsReady words G
           }
         where
           IsLeaving_at : ℕ → Type 0
-          IsLeaving_at n = IsLeaving n G.harts words t tvm.tables.root.0 tvm.pool.pages
+          IsLeaving_at n = IsBeingCleared n G.harts words t tvm.tables.root.0 tvm.pool.pages
 
   board : (tvm : Tvm) → live_at G.tvms t ≡ Some tvm → tvm.tables.pages ≡ G.pages
   board tvm live = go (find_tvm ready.state t) refl

@@ -30,7 +30,7 @@ use Rattle.cove_tvm.specs.Called.{Called, IsMet, IsReady}
 use Rattle.cove_tvm.specs.MappedRuns.{AreMapped, MayMap}
 use Rattle.cove_tvm.specs.Stands.{Stands}
 use Rattle.cove_tvm.specs.TvmTables.{live_at}
-use Rattle.cove_tvm.specs.UnmappedRuns.{MayMapIn}
+use Rattle.cove_tvm.specs.UnmappedRuns.{MayMapOwnedBy}
 use Rattle.cove_tvm.specs.declared.ground.Ground.{Ground}
 use Rattle.cove_tvm.specs.declared.machines.Tvm.{Tvm}
 
@@ -50,7 +50,7 @@ run_checks test shared S t base n gpa =
 pub record Grown (test : Owner → Bool) (words : List ℕ) (G : Ground) (S : State) (k base n gpa : ℕ) : Type 0 where
   pub old : Tvm
   pub model : ModelTvm
-  pub may : MayMapIn test words G S k base n gpa old model
+  pub may : MayMapOwnedBy test words G S k base n gpa old model
 
 -- the TVM with a number is one; none has the number 0
 abbrev pub Grows : (test : Owner → Bool) (words : List ℕ) (G : Ground) (S : State) (t base n gpa : ℕ) → Type 0
@@ -99,7 +99,7 @@ module _ {words : List ℕ} {G : Ground} (ready : IsReady words G) (base n gpa :
 -- ---- what the code leaves
 
 module _ {test : Owner → Bool} {shared : Bool} {words mid : List ℕ} {G : Ground} {S : State} {k base n gpa : ℕ} {old : Tvm} {model : ModelTvm}
-    (may : MayMapIn test words G S k base n gpa old model) (prepared : Prepares G.pages G.harts (suc k) (base / 4096) n shared words mid) where
+    (may : MayMapOwnedBy test words G S k base n gpa old model) (prepared : Prepares G.pages G.harts (suc k) (base / 4096) n shared words mid) where
   -- the run may be mapped, where every lawful store is allowed
   pub run_allowed : (hart : ℕ) (allows : List ℕ → ℕ → ℕ → Type 0) → AllowsLawful allows G.pages G.harts hart words → (tvm : Tvm) → live_at G.tvms (suc k) ≡ Some tvm
       → MayMapBy allows tvm.tables.pages tvm.tables.root.0 (gpa / 4096) (base / 4096) n shared mid tvm.pool.pages

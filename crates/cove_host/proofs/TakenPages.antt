@@ -13,7 +13,7 @@ use Rattle.cove_base.specs.Stores.{AllAllowed, stored}
 use Rattle.cove_base.specs.Tables.{Slot, InRoot, InMiddle, InLast, IsLinkSlot, below, entry_at, leaf_at, next_table}
 use Rattle.cove_base.specs.declared.numbers.Role.{Role}
 use Rattle.cove_base.specs.declared.numbers.Role.TheVariants.{Root, State, Table, Vcpu, Data}
-use Rattle.cove_clear.specs.Leaving.{Clears, IsLeaving}
+use Rattle.cove_clear.specs.Clearing.{Clears, IsBeingCleared}
 use Rattle.cove_host.specs.Released.{all_cpu_pages, cpu_pages, release_stores}
 use Rattle.cove_model.proofs.Distinct.{has_left, has_right}
 use Rattle.cove_model.proofs.LeafWords.{given_host, none_named}
@@ -105,7 +105,7 @@ release_lawful pages harts hart t last (q ∷ ps) words long left each = (
 -- ---- a TVM whose tables are clear
 
 module _ (pages harts : ℕ) (words mid : List ℕ) (t : ℕ) (seats : ℕ → Option Seat) (files : FileTable) (tvm : Tvm) (model : ModelTvm) (pool : List ℕ)
-    (live : LiveStands pages harts words t seats files tvm model) (leaving : IsLeaving pages harts mid t tvm.tables.root.0 pool) (clears : Clears pages words mid t)
+    (live : LiveStands pages harts words t seats files tvm model) (leaving : IsBeingCleared pages harts mid t tvm.tables.root.0 pool) (clears : Clears pages words mid t)
     (empty : (n : ℕ) → n < 2048 → get_or mid (table_word pages tvm.tables.root.0 n) 0 ≡ 0) where
   abbrev root : ℕ
   root = tvm.tables.root.0
@@ -120,7 +120,7 @@ module _ (pages harts : ℕ) (words mid : List ℕ) (t : ℕ) (seats : ℕ → O
   done = stored mid (release_stores all)
 
   long : 513 * pages ≤ length mid
-  long = let size = leaving.is_open.size in omega arith
+  long = let size = leaving.clearable.size in omega arith
 
   -- ---- no entry is left
 
@@ -207,9 +207,9 @@ module _ (pages harts : ℕ) (words mid : List ℕ) (t : ℕ) (seats : ℕ → O
           let at = range_has root 4 p in_root in
           let low = at.0 in
           let high = at.1 in
-          let fits = leaving.is_open.root_is.fits in
+          let fits = leaving.clearable.root_is.fits in
           let is : root + (p - root) ≡ p = omega arith in
-          (omega arith, (Root, ap (λ k. get_or mid k 0) (sym is) ∙ leaving.is_open.root_is.roots (p - root) (omega arith)))
+          (omega arith, (Root, ap (λ k. get_or mid k 0) (sym is) ∙ leaving.clearable.root_is.roots (p - root) (omega arith)))
       | inr most ↦ elim (or_cases (eqb tvm.state.0 p) (has p (all_cpu_pages tvm)) most) [
         | inl here ↦ subst IsOwn (eqb-true tvm.state.0 p here) (live.owned.state_fits, (State, given_mid tvm.state.0 State live.owned.state_fits live.owned.state_is))
         | inr cpus ↦ cpus_own p cpus
@@ -219,7 +219,7 @@ module _ (pages harts : ℕ) (words mid : List ℕ) (t : ℕ) (seats : ℕ → O
 
   -- the stores are lawful
   pub all_lawful : (hart : ℕ) (last : List ℕ) → AllAllowed (IsLawful pages harts hart last) mid (release_stores all)
-  all_lawful hart last = release_lawful pages harts hart t last all mid long leaving.is_open.left (λ p there. let own = all_own p there in (own.0, inl own.1))
+  all_lawful hart last = release_lawful pages harts hart t last all mid long leaving.clearable.left (λ p there. let own = all_own p there in (own.0, inl own.1))
 
   -- a page that isn't the TVM's
   not_in : (p : ℕ) → ((role : Role) → get_or mid p 0 ≢ given t role) → has p all ≡ false

@@ -25,7 +25,7 @@ use Rattle.cove_tvm.proofs.StateExampleProofs.{begun_is_new}
 use Rattle.cove_tvm.specs.Examples.{begun}
 use Rattle.cove_tvm.specs.GivenRuns.{MayGive}
 use Rattle.cove_tvm.specs.GroundLaws.{IsNewGround}
-use Rattle.cove_tvm.specs.LifeExamples.{all_converted, created, created_ground, created_words, freed, freed_words, low_converted, nine_ground, nine_pages, supplied, supplied_ground, supplied_model, supplied_tvm, supplied_words}
+use Rattle.cove_tvm.specs.LifeExamples.{all_converted, created_state, created_ground, created_words, freed_state, freed_words, low_converted, nine_ground, nine_pages, supplied_state, supplied_ground, supplied_model, supplied_tvm, supplied_words}
 use Rattle.cove_tvm.specs.NewTvms.{MayCreate}
 use Rattle.cove_tvm.specs.PrivateRuns.{MayGrow}
 use Rattle.cove_tvm.specs.SharedRuns.{MayShare}
@@ -58,7 +58,7 @@ after_low = ground_converts (replicate (all_words 9 1) 0) nine_ground (opening n
 after_high : Stands all_converted nine_ground (effect (effect (opening nine_pages) 0 (Convert 0 3)) 0 (Convert 0x4000 5))
 after_high = ground_converts low_converted nine_ground (effect (opening nine_pages) 0 (Convert 0 3)) 0 0x4000 5 (omega arith) (omega arith) refl after_low
 
-pub board : Stands freed_words nine_ground freed
+pub board : Stands freed_words nine_ground freed_state
 board = ground_fences all_converted nine_ground (effect (effect (opening nine_pages) 0 (Convert 0 3)) 0 (Convert 0x4000 5)) 0 (omega arith) (λ hart on. omega arith) after_high
 
 -- ---- what a creation needs
@@ -66,7 +66,7 @@ board = ground_fences all_converted nine_ground (effect (effect (opening nine_pa
 not_given : (owner : Owner) (t : ℕ) (purpose : Purpose) → is_free owner ≡ true → owner ≡ Given t purpose → ⊥
 not_given owner t purpose free is = true≢false (sym free ∙ ap is_free is)
 
-given_to_none : (p t : ℕ) (purpose : Purpose) → page_at freed.pages p ≡ Given t purpose → ⊥
+given_to_none : (p t : ℕ) (purpose : Purpose) → page_at freed_state.pages p ≡ Given t purpose → ⊥
 given_to_none zero t purpose is = not_given _ t purpose refl is
 given_to_none (suc zero) t purpose is = not_given _ t purpose refl is
 given_to_none (suc (suc zero)) t purpose is = not_given _ t purpose refl is
@@ -78,7 +78,7 @@ given_to_none (suc (suc (suc (suc (suc (suc (suc zero))))))) t purpose is = not_
 given_to_none (suc (suc (suc (suc (suc (suc (suc (suc zero)))))))) t purpose is = not_given _ t purpose refl is
 given_to_none (suc (suc (suc (suc (suc (suc (suc (suc (suc p))))))))) t purpose is = not_given _ t purpose refl is
 
-orderly : IsOrderly freed
+orderly : IsOrderly freed_state
 orderly = record {
   numbers = tt;
   made = tt;
@@ -86,8 +86,8 @@ orderly = record {
   given = λ p t purpose is. absurd (given_to_none p t purpose is);
 }
 
-seated : IsSeated freed
-seated = none_seated freed (λ h. refl)
+seated : IsSeated freed_state
+seated = none_seated freed_state (λ h. refl)
 
 -- no call so far stored a number of a TVM
 no_number : (place : ℕ) → 4619 ≤ place → get_or freed_words place 0 ≡ 0
@@ -103,7 +103,7 @@ fences = record {
   numbers = λ t low high. omega (arith, no_number (tvm_word 9 1 t) (omega arith));
 }
 
-pub may_create : MayCreate 9 0x4000 0x8000 freed
+pub may_create : MayCreate 9 0x4000 0x8000 freed_state
 may_create = record {
   room = omega arith;
   root_inside = omega arith;
@@ -114,17 +114,17 @@ may_create = record {
 }
 
 module _ (tables : Tables) (root : tables.root.0 ≡ 4) (pages : tables.pages ≡ 9) where
-  pub creation : Stands created_words (created_ground tables) created
-  creation = create_stands freed_words nine_ground freed 0 0x4000 0x8000 (begun tables) board orderly seated fences may_create (begun_is_new tables root pages)
+  pub creation : Stands created_words (created_ground tables) created_state
+  creation = create_stands freed_words nine_ground freed_state 0 0x4000 0x8000 (begun tables) board orderly seated fences may_create (begun_is_new tables root pages)
 
-  pub free : MayGive created_words (created_ground tables) created 0 0 2 (begun tables) (new_tvm 1)
+  pub free : MayGive created_words (created_ground tables) created_state 0 0 2 (begun tables) (new_tvm 1)
   free = record { stands = creation; live = refl; found = refl; inside = omega arith; free = refl }
 
-  pub supply : Stands supplied_words (supplied_ground tables) supplied
-  supply = tables_stand 0 created_words (created_ground tables) created 0 0 2 (begun tables) (supplied_tvm tables) (new_tvm 1) free
+  pub supply : Stands supplied_words (supplied_ground tables) supplied_state
+  supply = tables_stand 0 created_words (created_ground tables) created_state 0 0 2 (begun tables) (supplied_tvm tables) (new_tvm 1) free
       (record { pages = refl; room = refl; rest = refl })
 
-  pub own : MayGrow supplied_words (supplied_ground tables) supplied 0 0x2000 1 0x9000 (supplied_tvm tables) supplied_model
+  pub own : MayGrow supplied_words (supplied_ground tables) supplied_state 0 0x2000 1 0x9000 (supplied_tvm tables) supplied_model
   own = record {
     stands = supply;
     few = omega arith;
@@ -137,7 +137,7 @@ module _ (tables : Tables) (root : tables.root.0 ≡ 4) (pages : tables.pages �
     enough = refl;
   }
 
-  pub shared : MayShare supplied_words (supplied_ground tables) supplied 0 0x3000 1 0x9000 (supplied_tvm tables) supplied_model
+  pub shared : MayShare supplied_words (supplied_ground tables) supplied_state 0 0x3000 1 0x9000 (supplied_tvm tables) supplied_model
   shared = record {
     stands = supply;
     few = omega arith;
@@ -153,32 +153,32 @@ module _ (tables : Tables) (root : tables.root.0 ≡ 4) (pages : tables.pages �
 -- ---- what no call needs
 
 module _ (tables : Tables) where
-  pub created_before : Stands freed_words (created_ground tables) created → ⊥
+  pub created_before : Stands freed_words (created_ground tables) created_state → ⊥
   created_before stands =
       let is : get_or freed_words 8 0 ≡ given 1 StateRole = (stands.words_stand.stands.owners.page 8 (omega arith)).2 in
       let was : get_or freed_words 8 0 ≡ converting 0 = refl in
       omega arith
 
-  pub supplied_before : Stands created_words (supplied_ground tables) supplied → ⊥
+  pub supplied_before : Stands created_words (supplied_ground tables) supplied_state → ⊥
   supplied_before stands =
       let is : get_or created_words 0 0 ≡ given 1 Table = (stands.words_stand.stands.owners.page 0 (omega arith)).2 in
       let was : get_or created_words 0 0 ≡ converting 0 = refl in
       omega arith
 
-  pub host_page : MayGive created_words (created_ground tables) created 0 0x3000 1 (begun tables) (new_tvm 1) → ⊥
+  pub host_page : MayGive created_words (created_ground tables) created_state 0 0x3000 1 (begun tables) (new_tvm 1) → ⊥
   host_page may = true≢false (sym may.free)
 
-  pub past_the_board : MayGive created_words (created_ground tables) created 0 0x9000 1 (begun tables) (new_tvm 1) → ⊥
+  pub past_the_board : MayGive created_words (created_ground tables) created_state 0 0x9000 1 (begun tables) (new_tvm 1) → ⊥
   past_the_board may = let inside : 10 ≤ 9 = may.inside in omega arith
 
-  pub to_none : MayGive created_words (created_ground tables) created 1 0 2 (begun tables) (new_tvm 1) → ⊥
+  pub to_none : MayGive created_words (created_ground tables) created_state 1 0 2 (begun tables) (new_tvm 1) → ⊥
   to_none may = none-some (begun tables) may.live
 
-  pub no_tables : MayGrow created_words (created_ground tables) created 0 0x2000 1 0x9000 (begun tables) (new_tvm 1) → ⊥
+  pub no_tables : MayGrow created_words (created_ground tables) created_state 0 0x2000 1 0x9000 (begun tables) (new_tvm 1) → ⊥
   no_tables may = let none : ◌≡◌ {A = ℕ} 2 0 = may.enough in omega arith
 
-  pub host_page_as_own : MayGrow supplied_words (supplied_ground tables) supplied 0 0x3000 1 0x9000 (supplied_tvm tables) supplied_model → ⊥
+  pub host_page_as_own : MayGrow supplied_words (supplied_ground tables) supplied_state 0 0x3000 1 0x9000 (supplied_tvm tables) supplied_model → ⊥
   host_page_as_own may = true≢false (sym may.owners)
 
-  pub free_page : MayShare supplied_words (supplied_ground tables) supplied 0 0x2000 1 0x9000 (supplied_tvm tables) supplied_model → ⊥
+  pub free_page : MayShare supplied_words (supplied_ground tables) supplied_state 0 0x2000 1 0x9000 (supplied_tvm tables) supplied_model → ⊥
   free_page may = true≢false (sym may.owners)

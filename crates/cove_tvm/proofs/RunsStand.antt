@@ -46,7 +46,7 @@ use Rattle.cove_tvm.specs.MappedRuns.{AreMapped, MayMap, shown}
 use Rattle.cove_tvm.specs.Stands.{Stands}
 use Rattle.cove_tvm.specs.TvmLends.{with_tvm}
 use Rattle.cove_tvm.specs.TvmStands.{AreMappings, LiveStands}
-use Rattle.cove_tvm.specs.UnmappedRuns.{MayMapIn}
+use Rattle.cove_tvm.specs.UnmappedRuns.{MayMapOwnedBy}
 use Rattle.cove_tvm.specs.declared.ground.Ground.{Ground}
 use Rattle.cove_tvm.specs.declared.machines.Tvm.{Tvm}
 
@@ -104,7 +104,7 @@ of_run first n P each p low high =
     subst P is (each (p - first) (omega (arith, low, high)))
 
 module _ {test : Owner → Bool} {words : List ℕ} {G : Ground} {S : MonitorState} {k base n gpa : ℕ} {old : Tvm} {model : ModelTvm}
-    (may : MayMapIn test words G S k base n gpa old model) where
+    (may : MayMapOwnedBy test words G S k base n gpa old model) where
   pub numbered : (1 ≤ suc k) × (suc k ≤ TVM_LIMIT)
   numbered =
       let low = live_made G.tvms (suc k) old may.live in

@@ -43,8 +43,8 @@ all_converted = stored low_converted (convert_stores 9 low_converted 0x4000 5)
 abbrev pub freed_words : List ℕ
 freed_words = stored all_converted (global_fence_stores 9 all_converted 0)
 
-abbrev pub freed : State
-freed = effect (effect (effect (opening nine_pages) 0 (Convert 0 3)) 0 (Convert 0x4000 5)) 0 GlobalFence
+abbrev pub freed_state : State
+freed_state = effect (effect (effect (opening nine_pages) 0 (Convert 0 3)) 0 (Convert 0x4000 5)) 0 GlobalFence
 
 -- TVM 1 is created, with its root from page 4 on, and its state page 8
 abbrev pub created_words : List ℕ
@@ -53,8 +53,8 @@ created_words = stored freed_words (create_stores 1 0x4000 0x8000)
 abbrev pub created_ground : Tables → Ground
 created_ground tables = record nine_ground { tvms = with_new nine_ground.tvms (begun tables) }
 
-abbrev pub created : State
-created = effect freed 0 (Create 0x4000 0x8000)
+abbrev pub created_state : State
+created_state = effect freed_state 0 (Create 0x4000 0x8000)
 
 -- it is given pages 0 and 1 for tables
 abbrev pub supplied_words : List ℕ
@@ -66,8 +66,8 @@ supplied_tvm tables = record (begun tables) { pool = record { pages = 0 ∷ 1 �
 abbrev pub supplied_ground : Tables → Ground
 supplied_ground tables = record (created_ground tables) { tvms = with_tvm (created_ground tables).tvms 0 (supplied_tvm tables) }
 
-abbrev pub supplied : State
-supplied = effect created 0 (TablesCall 1 0 2)
+abbrev pub supplied_state : State
+supplied_state = effect created_state 0 (TablesCall 1 0 2)
 
 abbrev pub supplied_model : ModelTvm
 supplied_model = record (new_tvm 1) { tables = 0 ∷ 1 ∷ [] }

@@ -15,7 +15,7 @@ use Rattle.cove_stage2.specs.MapStores.{Pages}
 use Rattle.cove_tvm.specs.MappedRuns.{AreMapped, MayMap}
 use Rattle.cove_tvm.specs.Stands.{Stands}
 use Rattle.cove_tvm.specs.TvmLends.{with_tvm}
-use Rattle.cove_tvm.specs.UnmappedRuns.{MayMapIn}
+use Rattle.cove_tvm.specs.UnmappedRuns.{MayMapOwnedBy}
 use Rattle.cove_tvm.specs.declared.ground.Ground.{Ground}
 use Rattle.cove_tvm.specs.declared.machines.Tvm.{Tvm}
 
@@ -28,7 +28,7 @@ with_memory words t base n = stored words (memory_stores t base n)
 
 -- guest pages of a TVM may be mapped to free pages, which may be given to it
 abbrev pub MayGrow : (words : List ℕ) (G : Ground) (S : State) (k base n gpa : ℕ) (old : Tvm) (model : ModelTvm) → Type 0
-MayGrow words G S k base n gpa old model = MayMapIn is_free words G S k base n gpa old model
+MayGrow words G S k base n gpa old model = MayMapOwnedBy is_free words G S k base n gpa old model
 
 -- its guest pages are mapped to the pages, which were given to it
 abbrev pub OwnsRun : (words : List ℕ) (G : Ground) (k base n gpa : ℕ) (old : Tvm) (new : List ℕ) (left : Pages) → Type 0

@@ -12,13 +12,13 @@ use Rattle.cove_stage2.specs.MapStores.{Pages}
 use Rattle.cove_tvm.specs.MappedRuns.{AreMapped, MayMap}
 use Rattle.cove_tvm.specs.Stands.{Stands}
 use Rattle.cove_tvm.specs.TvmLends.{with_tvm}
-use Rattle.cove_tvm.specs.UnmappedRuns.{MayMapIn}
+use Rattle.cove_tvm.specs.UnmappedRuns.{MayMapOwnedBy}
 use Rattle.cove_tvm.specs.declared.ground.Ground.{Ground}
 use Rattle.cove_tvm.specs.declared.machines.Tvm.{Tvm}
 
 -- guest pages of a TVM may be mapped to pages of the host's
 abbrev pub MayShare : (words : List ℕ) (G : Ground) (S : State) (k base n gpa : ℕ) (old : Tvm) (model : ModelTvm) → Type 0
-MayShare words G S k base n gpa old model = MayMapIn is_host words G S k base n gpa old model
+MayShare words G S k base n gpa old model = MayMapOwnedBy is_host words G S k base n gpa old model
 
 -- the words of n pages of the host's from one on count one mapping more, and all others stay
 pub record RaisesCounts (first n : ℕ) (words new : List ℕ) : Type 0 where

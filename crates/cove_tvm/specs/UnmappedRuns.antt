@@ -12,9 +12,10 @@ use Rattle.cove_tvm.specs.TvmTables.{live_at}
 use Rattle.cove_tvm.specs.declared.ground.Ground.{Ground}
 use Rattle.cove_tvm.specs.declared.machines.Tvm.{Tvm}
 
--- a TVM is live on both sides, n pages are on the board with owners that pass a test, and none of its guest pages has a
--- mapping yet, for which it has enough tables
-pub record MayMapIn (test : Owner → Bool) (words : List ℕ) (G : Ground) (S : State) (k base n gpa : ℕ) (old : Tvm) (model : ModelTvm) : Type 0 where
+-- A TVM is live on both sides; the n pages from the byte address base on are on the board, and their owners pass a test; none of
+-- the n guest pages from gpa on, which a tree reaches, is mapped yet, and the TVM has the tables that they need. Their kinds are not
+-- looked at.
+pub record MayMapOwnedBy (test : Owner → Bool) (words : List ℕ) (G : Ground) (S : State) (k base n gpa : ℕ) (old : Tvm) (model : ModelTvm) : Type 0 where
   pub stands : Stands words G S
   pub few : G.pages ≤ PAGE_LIMIT
   pub live : live_at G.tvms (suc k) ≡ Some old

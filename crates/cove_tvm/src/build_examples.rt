@@ -38,7 +38,7 @@ pub fn worked_giving()
     ensures memory { memory_stores 1 0x4000 2 ≡ (4, 98) ∷ (5, 98) ∷ [] }
 {}
 
-/// More table pages stand behind those of the pool, and a region behind the others; nothing else of the TVM changes.
+/// More table pages stand behind those of the pool, and nothing else of the TVM changes; a region stands behind the others.
 pub fn worked_growing()
     ensures pages { (tvm : Tvm)
         → AddsTables 0x4000 2 tvm (record tvm { pool = record { pages = tvm.pool.pages ++ 4 ∷ 5 ∷ []; room = tvm.pool.room } }) }
@@ -47,7 +47,8 @@ pub fn worked_growing()
     ensures less_room { (tvm : Tvm) → tvm.pool.room ≡ 9
         → AddsTables 0x4000 0 tvm (record tvm { pool = record { pages = tvm.pool.pages ++ []; room = 8 } }) → ⊥ }
     ensures gone { (tvm : Tvm) → tvm.life ≡ Building → AddsTables 0x4000 0 tvm (record tvm { life = Gone }) → ⊥ }
-    ensures region { (with_region 0x3000 0x2000 (new_tvm 1)).regions ≡ record { first = 3; count = 2 } ∷ [] }
+    ensures region { (with_region 0x8000 0x1000 (with_region 0x3000 0x2000 (new_tvm 1))).regions
+        ≡ record { first = 3; count = 2 } ∷ record { first = 8; count = 1 } ∷ [] }
 {}
 
 /// vCPU 2 starts at the place with its number in a0 and the argument in a1, and no vCPU comes or goes.

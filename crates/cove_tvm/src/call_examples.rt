@@ -28,7 +28,8 @@ pub fn worked_meeting()
     ensures no_words { IsMet (record nine_free { pages = Host [] ∷ [] }) → ⊥ }
 {}
 
-/// A small board is ready before any call; it isn't without a hart, where its epoch may not rise, or without words.
+/// A new ground, which has no kick, is ready with words of zeros; it isn't without a hart, where its epoch may not rise, or without
+/// words.
 pub fn worked_readiness()
     ensures ground { IsNewGround small_script small_ground }
     ensures kicked { IsNewGround small_script (record small_ground { kicked = 1 }) → ⊥ }

@@ -1,4 +1,5 @@
-//! Worked examples, which the checker computes: what each definition of this crate says yes to, and what it says no to.
+//! Worked examples, which the checker computes, of numbers, leaves, and what words leave of TVMs. The others stand in the files
+//! `*_examples`.
 
 ghost use Rattle.std.specs.Prelude.{◌≡◌, ◌+◌, ◌<◌, ℕ, List, [], ◌∷◌, Some, None, false, true, slice_index, slice_set};
 ghost use Rattle.cove_base.specs.PageWords.{given, released};
@@ -63,7 +64,8 @@ pub fn worked_leaving()
         → LeavesTvm 1 1 old new 1 → ⊥ }
 {}
 
-/// A store of the epoch leaves every TVM; a store of a TVM's number, or of a word of its tables, leaves the others alone.
+/// A store of the epoch leaves every TVM; one of a TVM's number, or of a word of its tables, leaves every other TVM and not this
+/// one.
 pub fn worked_storing()
     ensures epoch { (words : List ℕ) (n : ℕ) → LeavesEveryTvm 1 1 words (slice_set words (epoch_word 1) n) }
     ensures a_number { LeavesEveryTvm 1 1 small_words (slice_set small_words (tvm_word 1 1 2) 5) → ⊥ }
@@ -99,7 +101,8 @@ pub fn worked_changes()
     ensures unmapped { KeepsMappings (λ tvm. record tvm { mappings = [] }) → ⊥ }
 {}
 
-/// A call on TVM 1 that changes nothing leaves the others; one that takes TVM 2 away, moves a hart or leaves a kick doesn't.
+/// A call on TVM 1 that changes nothing leaves the others; one that takes TVM 2 away or moves a hart doesn't. What stands has its
+/// part of TVM 1; a ground with a kick stands for no state without one.
 pub fn worked_others()
     ensures same { (words : List ℕ) (G : Ground) (S : State) → LeavesOthers 1 words words G G.tvms S S }
     ensures taken { (words : List ℕ) (G : Ground) (S : State) (tvm : Tvm) → live_at G.tvms 2 ≡ Some tvm

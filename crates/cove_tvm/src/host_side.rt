@@ -8,7 +8,7 @@ ghost use Rattle.cove_tvm.specs.Served.{IsServed};
 use crate::ground::Ground;
 use cove_base::{HartId, HostCall, Reply, Words};
 
-/// Who answers the calls of the host.
+/// What answers the calls of the host: `Covh` of cove_host.
 pub trait HostSide {
     /// Answers a call of a hart's. A call that is not built is not supported.
     fn covh<W: Words>(&mut self, w: &mut W, g: &mut Ground, h: HartId, c: HostCall) -> Reply

@@ -1,11 +1,12 @@
 #![tactic(auto)]
 //! What a monitor has beside the shared words, and which state of the one-thread monitor it stands for.
 //!
-//! [`Tvms`] is every TVM that was created, by its number; all room is taken at the start. The one definition of this crate
+//! [`Tvms`] is every TVM that was created, by its number; all room is taken at the start. The main definition of this crate
 //! is `Stands` (specs/Stands): words and ground stand for a state, said by index for each page, each guest page, each slot of
-//! a TVM's tables and each vCPU. [`opening_law`] says that it holds at the start, and [`frame_law`] what leaves it. It stands
-//! on the definitions of `cove_model`, on the tables over words of `cove_stage2`, and on regions, registers and interrupt
-//! files.
+//! a TVM's tables and each vCPU. [`opening_law`] says that it holds at the start, and [`frame_law`] what leaves it. What a
+//! call of the host needs and promises over that relation is said here too (specs/Called, specs/Served), and [`HostSide`] is
+//! the trait of what answers calls. It stands on the definitions of `cove_model`, on the tables over words of `cove_stage2`,
+//! and on regions, registers and interrupt files.
 
 mod build_examples;
 mod call_examples;

@@ -13,7 +13,7 @@ ghost use Rattle.cove_tvm.specs.RunExamples.{mappable, nine_linked, nine_mapped}
 ghost use Rattle.cove_tvm.specs.SharedRuns.{RaisesCounts};
 ghost use Rattle.cove_tvm.specs.TvmStands.{AreMappings, AreTables};
 
-/// Each frame of a run is filled with its own content, and no frame before, behind or past the board changes.
+/// Each frame of a run is filled with its own content; no frame before or behind it changes, and none is lost.
 pub fn worked_filling()
     ensures two_of_three { (a b c : List ℕ) (content : ℕ → List ℕ)
         → FillsFrames 1 2 content (a ∷ b ∷ c ∷ []) (a ∷ content 0 ∷ content 1 ∷ []) }
@@ -70,7 +70,7 @@ pub fn worked_mappings()
     ensures table_lost { AreMappings 8 1 mappable 1 4 (0 ∷ []) (record (new_tvm 1) { tables = 0 ∷ 1 ∷ [] }) → ⊥ }
 {}
 
-/// A TVM's pool has pages that are given to it for tables, each once, and none that serves a slot.
+/// The root is the TVM's, and its pool has pages that are given to it for tables, each once, and none that serves a slot.
 pub fn worked_pools()
     ensures own { AreTables 8 1 mappable 1 4 (0 ∷ 1 ∷ []) }
     ensures another_tvm { AreTables 8 1 mappable 2 4 [] → ⊥ }

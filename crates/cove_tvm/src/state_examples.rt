@@ -46,7 +46,7 @@ pub fn worked_blocking()
     ensures another_page { BlockedStands 0 2 two_inside 1 (present 5 false) (blocked (present 6 false) 3) (0 ∷ []) (Some (0 ∷ [])) → ⊥ }
 {}
 
-/// A vCPU is new with a page that was given for it, ready, with nothing pending.
+/// A vCPU is new with its page, ready, with nothing pending.
 pub fn worked_vcpus()
     ensures new { (regs : Regs) → registers regs ≡ replicate 32 0 → regs.pc ≡ 0 → IsNewCpu 5 (new_slot regs) }
     ensures another_page { (regs : Regs) → IsNewCpu 6 (new_slot regs) → ⊥ }

@@ -1,6 +1,6 @@
 use Rattle.std.proofs.Common.{◌≡◌, ◌<◌, ℕ, get_or}
 use Rattle.cove_base.specs.Places.{table_word}
-use Rattle.cove_clear.specs.Leaving.{KeepsLinkSlots, Proceeds}
+use Rattle.cove_clear.specs.Clearing.{KeepsLinkSlots, Proceeds}
 use Rattle.cove_clear.proofs.clearing.clear_last.Given as goal
 
 -- the words so far are clear, and the links stay

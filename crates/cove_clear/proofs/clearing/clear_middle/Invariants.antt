@@ -1,7 +1,7 @@
 use Rattle.std.proofs.Common.{◌≡◌, ◌<◌, ℕ, get_or}
 use Rattle.cove_base.specs.Places.{table_word}
 use Rattle.cove_base.specs.Tables.{InRoot, entry_at}
-use Rattle.cove_clear.specs.Leaving.{Proceeds}
+use Rattle.cove_clear.specs.Clearing.{Proceeds}
 use Rattle.cove_clear.proofs.clearing.clear_middle.Given as goal
 
 -- the words so far are clear, and the root stays

@@ -1,6 +1,6 @@
 use Rattle.std.proofs.Common.{◌≡◌, ◌<◌, ℕ, get_or}
 use Rattle.cove_base.specs.Places.{table_word}
-use Rattle.cove_clear.specs.Leaving.{Proceeds}
+use Rattle.cove_clear.specs.Clearing.{Proceeds}
 use Rattle.cove_clear.proofs.clearing.clear_tables.Given as goal
 
 -- the entries of the root so far are clear

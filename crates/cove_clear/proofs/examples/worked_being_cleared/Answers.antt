@@ -1,6 +1,6 @@
 use Rattle.cove_clear.proofs.ExampleProofs.{allows_nothing, leaving, not_inside, not_lost, not_miscounted}
 use Rattle.cove_model.specs.TableExamples.{rooted}
-use Rattle.cove_clear.proofs.examples.worked_leaving.Goals as goal
+use Rattle.cove_clear.proofs.examples.worked_being_cleared.Goals as goal
 
 pub returns-clause-leaving : goal.returns-clause-leaving
 returns-clause-leaving c = leaving

@@ -13,7 +13,7 @@ use Rattle.cove_model.specs.TableLaw.{shared_leaves}
 
 -- No hart is inside the TVM, and what its root leads to is a tree; the tables of every TVM are owned; and no two leaves of the
 -- TVM name one page of its memory.
-pub record IsOpen (pages harts : ℕ) (words : List ℕ) (t root : ℕ) : Type 0 where
+pub record IsClearable (pages harts : ℕ) (words : List ℕ) (t root : ℕ) : Type 0 where
   pub few : pages ≤ PAGE_LIMIT
   pub size : length words ≡ all_words pages harts
   pub left : IsLeft pages harts words t
@@ -50,8 +50,8 @@ AreCounted pages words =
 
 -- What holds of a TVM that is being destroyed, and of the pages that were gathered, before its tables are cleared and at every
 -- step of it.
-pub record IsLeaving (pages harts : ℕ) (words : List ℕ) (t root : ℕ) (pool : List ℕ) : Type 0 where
-  pub is_open : IsOpen pages harts words t root
+pub record IsBeingCleared (pages harts : ℕ) (words : List ℕ) (t root : ℕ) (pool : List ℕ) : Type 0 where
+  pub clearable : IsClearable pages harts words t root
   pub gathered : AreGathered pages words t root pool
   pub counted : AreCounted pages words
 
@@ -69,20 +69,20 @@ pub record Clears (pages : ℕ) (old new : List ℕ) (t : ℕ) : Type 0 where
   pub behind : (place : ℕ) → epoch_word pages ≤ place → slice_index new place ≡ slice_index old place
 
 -- The words are those of a TVM that is being destroyed, and allow every store that is lawful for a hart.
-abbrev pub MayLeave : (allows : List ℕ → ℕ → ℕ → Type 0) (pages root : ℕ) (words pool : List ℕ) → Type 0
-MayLeave allows pages root words pool =
-    (harts : ℕ) × (t : ℕ) × (hart : ℕ) × (last : List ℕ) × IsLeaving pages harts words t root pool × AllowsLawful allows pages harts hart last
+abbrev pub MayBeCleared : (allows : List ℕ → ℕ → ℕ → Type 0) (pages root : ℕ) (words pool : List ℕ) → Type 0
+MayBeCleared allows pages root words pool =
+    (harts : ℕ) × (t : ℕ) × (hart : ℕ) × (last : List ℕ) × IsBeingCleared pages harts words t root pool × AllowsLawful allows pages harts hart last
 
 -- It is destroyed further, by lawful stores that clear words of its tables and lower counts; `pool` was gathered before, `left` is now.
 pub record Goes (pages harts t root : ℕ) (old pool new left : List ℕ) : Type 0 where
-  pub leaving : IsLeaving pages harts new t root left
+  pub leaving : IsBeingCleared pages harts new t root left
   pub clears : Clears pages old new t
   pub lawful : (hart : ℕ) (last : List ℕ) → MakesLawful pages harts hart last old new
 
 -- Whatever TVM of this root was being destroyed goes on to the new words and gathered pages.
 abbrev pub Proceeds : (pages root : ℕ) (old pool new left : List ℕ) → Type 0
 Proceeds pages root old pool new left =
-    (harts t : ℕ) → IsLeaving pages harts old t root pool → Goes pages harts t root old pool new left
+    (harts t : ℕ) → IsBeingCleared pages harts old t root pool → Goes pages harts t root old pool new left
 
 -- every link is as it was
 abbrev pub KeepsLinkSlots : (pages root : ℕ) (old new : List ℕ) → Type 0
