@@ -1,9 +1,4 @@
-mod CallExampleProofs
-mod DestroyExampleProofs
-mod LifeExampleProofs
 mod RoomLemmas
-mod RunExampleProofs
-mod StateExampleProofs
 pub mod BegunTvm
 pub mod BuiltRegions
 pub mod ChangedFields

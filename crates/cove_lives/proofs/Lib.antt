@@ -1,0 +1,5 @@
+mod CallExampleProofs
+mod DestroyExampleProofs
+mod LifeExampleProofs
+mod RunExampleProofs
+mod StateExampleProofs

@@ -1,9 +1,0 @@
-use Rattle.cove_tvm.proofs.RunExampleProofs.{linked_alone, maps, page_kept}
-use Rattle.cove_tvm.proofs.run_examples.worked_next_mapping.Goals as goal
-
-pub returns : goal.returns
-returns c = record {
-  next = maps;
-  no_leaf = linked_alone;
-  spare_yet = page_kept;
-}
