@@ -21,8 +21,6 @@ mod scripts;
 mod statuses;
 mod steps;
 mod stores;
-#[cfg(test)]
-mod tests;
 mod walks;
 mod words;
 

@@ -111,26 +111,3 @@ impl Words for Plain {
         self.words[i as usize] += 1;
     }
 }
-
-#[cfg(test)]
-mod tests {
-    use super::*;
-    use crate::events::Event;
-    use crate::numbers::HartId;
-    use std::test::Fail;
-
-    #[test]
-    fn plain_words_are_zeros_stored_and_counted(rt: HostRuntime) -> Result<(), Fail> {
-        let mut plain = Plain::new(rt.alloc(), 3)?;
-        assert_eq!(rt; plain.as_slice(), [0, 0, 0].as_slice());
-        plain.set(1, 7);
-        assert_eq!(rt; plain.get(1), 7);
-        let entry = Entry {
-            hart: HartId(0),
-            event: Event::Exec,
-        };
-        plain.commit(2, &entry);
-        assert_eq!(rt; plain.as_slice(), [0, 7, 1].as_slice());
-        Ok(())
-    }
-}

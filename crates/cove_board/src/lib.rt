@@ -13,6 +13,3 @@ pub use boards::{Board, Boarded};
 pub use held::Held;
 pub use passes::{Pass, Passes};
 pub use views::{BoardRule, View};
-
-#[cfg(test)]
-mod tests;

@@ -18,8 +18,6 @@ mod plays;
 mod rules;
 mod seats;
 mod steps;
-#[cfg(test)]
-mod tests;
 mod walks;
 
 pub use builds::build;

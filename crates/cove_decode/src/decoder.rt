@@ -195,34 +195,3 @@ fn whole_word(word: u32) -> Option<Insn>
         _ => return None,
     })
 }
-
-#[cfg(test)]
-mod tests {
-    use super::*;
-    use std::test::Fail;
-
-    #[test]
-    fn words_of_a_guest(rt: HostRuntime) -> Result<(), Fail> {
-        assert!(rt; decode(0).is_none());
-        assert!(rt;
-            matches!(
-                decode(0x0001_12b7),
-                Some(Insn::Lui {
-                    rd: 5,
-                    imm: 0x11000
-                })
-            )
-        );
-        assert!(rt;
-            matches!(
-                decode(0x0205_1063),
-                Some(Insn::Bne {
-                    rs1: 10,
-                    rs2: 0,
-                    imm: 32
-                })
-            )
-        );
-        Ok(())
-    }
-}

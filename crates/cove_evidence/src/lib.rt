@@ -9,6 +9,3 @@ mod evidence;
 mod pieces;
 
 pub use evidence::{Evidence, EvidenceFault, check, evidence_is_read_back, make, read};
-
-#[cfg(test)]
-mod tests;

@@ -8,8 +8,6 @@
 mod memory;
 mod numbers;
 mod plans;
-#[cfg(test)]
-mod tests;
 
 pub use cove_decode::decode;
 pub use memory::{merge, pick};

@@ -9,6 +9,3 @@ mod states;
 
 pub use needs::Need;
 pub use states::{HartState, next_place};
-
-#[cfg(test)]
-mod tests;

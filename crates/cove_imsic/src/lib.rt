@@ -8,6 +8,3 @@ mod files;
 
 pub use file_state::FileState;
 pub use files::Files;
-
-#[cfg(test)]
-mod tests;

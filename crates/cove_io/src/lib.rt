@@ -16,6 +16,3 @@ pub use laws::worked_ends;
 pub use memory::{MemSink, MemSource, NullSink, SureSource};
 pub use outside::{ReadSource, WriteSink};
 pub use whole::{ReadError, read_all, write_all};
-
-#[cfg(test)]
-mod tests;

@@ -8,8 +8,6 @@
 mod journals;
 mod parsing;
 mod reading;
-#[cfg(test)]
-mod tests;
 mod writing;
 
 pub use journals::journals_are_read_back;

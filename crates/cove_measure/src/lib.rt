@@ -9,6 +9,3 @@ mod registers;
 
 pub use hmac::hmac384;
 pub use registers::Registers;
-
-#[cfg(test)]
-mod tests;

@@ -19,6 +19,3 @@ pub use harts::Hart;
 pub use monitors::Monitor;
 pub use opened::{Opened, Started};
 pub use rooms::Room;
-
-#[cfg(test)]
-mod tests;

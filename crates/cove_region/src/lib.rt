@@ -15,6 +15,3 @@ pub use areas::Area;
 pub use kinds::AreaKind;
 pub use laws::standing_law;
 pub use regions::{RegionFault, Regions, regions_law};
-
-#[cfg(test)]
-mod tests;

@@ -13,8 +13,6 @@ mod laws;
 mod printing;
 mod reading;
 mod statuses;
-#[cfg(test)]
-mod tests;
 mod threads;
 mod top;
 mod workers;

@@ -20,6 +20,3 @@ pub use faults::ParseError;
 pub use parsing::{Front, parse, parse_front};
 pub use printing::print;
 pub use read_back::script_is_read_back;
-
-#[cfg(test)]
-mod tests;

@@ -1,6 +1,6 @@
 mod ClearLemmas
 mod EntryLemmas
-mod LeafLemmas
+pub mod LeafLemmas
 mod LinkLemmas
 pub mod LackedCounts
 pub mod LackedLemmas

@@ -11,8 +11,6 @@ mod entries;
 mod laws;
 mod pools;
 mod tables;
-#[cfg(test)]
-mod tests;
 
 pub use entries::{Leaf, TableEntry, decode, decode_entry, encode};
 pub use laws::table_stores_law;

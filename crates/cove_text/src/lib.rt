@@ -10,8 +10,6 @@ mod hex_words;
 mod line_buf;
 mod lines;
 mod numbers;
-#[cfg(test)]
-mod tests;
 mod words;
 
 pub use call_words::{CALL_ROOM, call_fits, call_is_read_back, call_of, is_call_word, put_call};

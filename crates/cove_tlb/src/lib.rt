@@ -9,6 +9,3 @@ mod rings;
 
 pub use ring::{RING_ROOM, Ring};
 pub use rings::Rings;
-
-#[cfg(test)]
-mod tests;

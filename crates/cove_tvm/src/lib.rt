@@ -31,6 +31,3 @@ pub use table_laws::missing_law;
 pub use tvms::Tvms;
 pub use vcpu_laws::vcpu_law;
 pub use vcpus::{Bound, RunState, VcpuSlot};
-
-#[cfg(test)]
-mod tests;

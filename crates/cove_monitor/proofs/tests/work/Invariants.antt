@@ -1,4 +1,0 @@
-use Rattle.cove_monitor.proofs.tests.work.Given as goal
-
-abbrev pub ghosts-turns : goal.ghosts-turns
-ghosts-turns g a = record { name = a.blank.name; parts = a.blank.parts }
