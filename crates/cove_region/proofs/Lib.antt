@@ -1,5 +1,5 @@
-mod AreaLemmas
-mod RowLemmas
+pub mod AreaLemmas
+pub mod RowLemmas
 mod CutLemmas
 mod KindLemmas
 mod JoinLemmas

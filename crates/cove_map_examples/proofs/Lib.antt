@@ -1,0 +1,2 @@
+mod RegionProofs
+mod TableProofs

@@ -1,0 +1,92 @@
+//! What a table's words say, where a walk comes to, and what each call leaves of the tables.
+
+ghost use Rattle.std.specs.Prelude.{◌≡◌, ◌≢◌, ◌-◌, ◌^◌, ◌<◌, ◌++◌, ℕ, List, [], ◌∷◌, false, true, slice_index};
+ghost use Rattle.cove_base.specs.PageWords.{released};
+ghost use Rattle.cove_base.specs.Places.{table_word};
+ghost use Rattle.cove_base.specs.TableWords.{blocked};
+ghost use Rattle.cove_base.specs.Tables.{InMiddle, InRoot, IsLinkSlot, IsTree, Slot, entry_at, leaf_at, next_table, present};
+ghost use Rattle.cove_base.specs.declared.events.Walked.TheVariants.{Found, Missing};
+ghost use Rattle.cove_map_examples.specs.Examples.{zero_words};
+ghost use Rattle.cove_model.specs.LawfulStores.{IsRoot};
+ghost use Rattle.cove_stage2.specs.Changes.{ChangesLeaf, ClearsPage, IsBlockedLeaf, IsPresentLeaf, KeepsLinks, NamesWay, unblocked};
+ghost use Rattle.cove_stage2.specs.Entries.{IsEntryWord, IsWithin, IsWithinEntry};
+ghost use Rattle.cove_stage2.specs.Lacked.{LacksRest, tables_lacked};
+ghost use Rattle.cove_stage2.specs.LawfulTables.{AreGiven};
+ghost use Rattle.cove_stage2.specs.MapStores.{pool_left};
+ghost use Rattle.cove_stage2.specs.Walks.{WalksTo};
+ghost use Rattle.cove_stage2.specs.declared.entries.Leaf.TheVariants.{Blocked, Present};
+ghost use Rattle.cove_stage2.specs.declared.entries.TableEntry.TheVariants.{Next};
+
+/// The limits of a leaf's and an entry's numbers, the words that a table may have, and which leaves are present or blocked.
+pub fn worked_entries()
+    ensures leaf { IsWithin (Present (record { 0 = 5 }) true) }
+    ensures page_too_large { IsWithin (Present (record { 0 = 2 ^ 16 }) true) → ⊥ }
+    ensures number_too_large { IsWithin (Blocked (record { 0 = 5 }) true (2 ^ 32)) → ⊥ }
+    ensures next { IsWithinEntry (Next (record { 0 = 5 })) }
+    ensures next_too_large { IsWithinEntry (Next (record { 0 = 2 ^ 16 })) → ⊥ }
+    ensures leaf_word { IsEntryWord (present 5 true) }
+    ensures table_word { IsEntryWord (next_table 5) }
+    ensures no_word { IsEntryWord 2 → ⊥ }
+    ensures is_present { IsPresentLeaf (present 5 true) }
+    ensures absent { IsPresentLeaf 0 → ⊥ }
+    ensures is_blocked { IsBlockedLeaf (blocked (present 5 true) 3) }
+    ensures not_blocked { IsBlockedLeaf (present 5 true) → ⊥ }
+    ensures unblocked { unblocked (blocked (present 5 true) 3) ≡ present 5 true }
+{}
+
+/// A walk finds the page of a present leaf, for a fetch only where it is the TVM's own; else it comes to the leaf's word.
+pub fn worked_walks()
+    ensures own { WalksTo true (present 5 false) (Found (record { 0 = 5 })) }
+    ensures shared { WalksTo false (present 5 true) (Found (record { 0 = 5 })) }
+    ensures fetched { WalksTo true (present 5 true) (Found (record { 0 = 5 })) → ⊥ }
+    ensures other_page { WalksTo false (present 5 true) (Found (record { 0 = 6 })) → ⊥ }
+    ensures blocked { WalksTo false (blocked (present 5 true) 3) (Found (record { 0 = 5 })) → ⊥ }
+    ensures absent { WalksTo false 0 (Missing 0) }
+    ensures missed { WalksTo false (present 5 true) (Missing (present 5 true)) → ⊥ }
+{}
+
+/// One leaf is as it is said to be, and every other leaf is as it was, in as many words.
+pub fn worked_changes()
+    ensures same { (words : List ℕ) (g : ℕ) → IsTree 8 4 words → ChangesLeaf 8 4 words words g (leaf_at 8 4 words g) }
+    ensures elsewhere { (old new : List ℕ) → leaf_at 8 4 new 9 ≡ 0 → ChangesLeaf 8 4 old new 9 (present 2 false) → ⊥ }
+    ensures another { (old new : List ℕ) → leaf_at 8 4 new 8 ≢ leaf_at 8 4 old 8
+        → ChangesLeaf 8 4 old new 9 (present 2 false) → ⊥ }
+    ensures longer { (words : List ℕ) → ChangesLeaf 8 4 words (words ++ 0 ∷ []) 9 (present 2 false) → ⊥ }
+{}
+
+/// The tables on the way to a guest page are named, and no other slot changes; or no slot of the upper levels changes at all.
+pub fn worked_links()
+    ensures way { (words : List ℕ) → entry_at 8 4 words (InRoot 0) ≡ next_table 2 → entry_at 8 4 words (InMiddle 0) ≡ next_table 3
+        → NamesWay 8 4 words words 9 }
+    ensures no_way { (old : List ℕ) → NamesWay 8 4 old zero_words 9 → ⊥ }
+    ensures moved { (old new : List ℕ) → entry_at 8 4 old (InRoot 0) ≡ next_table 2 → entry_at 8 4 new (InRoot 0) ≡ next_table 3
+        → NamesWay 8 4 old new 9 → ⊥ }
+    ensures kept { (words : List ℕ) → KeepsLinks 8 4 words words }
+    ensures linked { (new : List ℕ) → entry_at 8 4 new (InRoot 0) ≡ next_table 2 → KeepsLinks 8 4 zero_words new → ⊥ }
+    ensures unlinked { (old : List ℕ) → entry_at 8 4 old (InRoot 0) ≡ next_table 2 → KeepsLinks 8 4 old zero_words → ⊥ }
+{}
+
+/// How many tables a run lacks, what a mapping leaves of the pool, and what the rest of its run lacks then.
+pub fn worked_mapping()
+    ensures one_page { tables_lacked 8 4 zero_words 9 1 ≡ 2 }
+    ensures across { tables_lacked 8 4 zero_words 511 2 ≡ 3 }
+    ensures left { pool_left 8 4 zero_words (1 ∷ 2 ∷ 3 ∷ []) 9 ≡ 1 ∷ [] }
+    ensures rest { (old new : List ℕ) → NamesWay 8 4 old new 9 → LacksRest 8 4 old new 9 }
+    ensures lacks_still { LacksRest 8 4 zero_words zero_words 9 → ⊥ }
+{}
+
+/// Each table word of a page is 0, and each other word is as it was.
+pub fn worked_clearing()
+    ensures cleared { ClearsPage 8 zero_words zero_words 4 }
+    ensures one_left { (old new : List ℕ) → slice_index new (table_word 8 4 511) ≡ 1 → ClearsPage 8 old new 4 → ⊥ }
+    ensures beside { (old new : List ℕ) → slice_index old (table_word 8 5 0) ≡ 1 → slice_index new (table_word 8 5 0) ≡ 0
+        → ClearsPage 8 old new 4 → ⊥ }
+{}
+
+/// A TVM has the tables that links name, and the pages of its pool, where they are given to it for tables.
+pub fn worked_pools()
+    ensures no_table { (words : List ℕ) → IsRoot 8 words 1 4 → ((a : Slot) → IsLinkSlot a → entry_at 8 4 words a ≡ 0)
+        → AreGiven 8 words 1 4 [] }
+    ensures no_root { AreGiven 8 zero_words 1 4 [] → ⊥ }
+    ensures not_given { (words : List ℕ) → slice_index words 3 ≡ released → AreGiven 8 words 1 4 (3 ∷ []) → ⊥ }
+{}
