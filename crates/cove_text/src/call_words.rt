@@ -81,56 +81,36 @@ fn call_of_two(word: &[u8], a: u64, b: u64) -> Option<HostCall>
     None
 }
 
-// The call of a word with three arguments.
-fn call_of_three(word: &[u8], a: u64, b: u64, c: u64) -> Option<HostCall>
-    ensures { result ≡ call_of word.now (a ∷ b ∷ c ∷ []) }
+// The call of a word with three arguments, of which the first is a TVM.
+fn call_of_three(word: &[u8], t: u64, b: u64, c: u64) -> Option<HostCall>
+    ensures { result ≡ call_of word.now (t ∷ b ∷ c ∷ []) }
 {
     if word == b"region".as_slice() {
-        return Some(HostCall::Region {
-            t: a,
-            gpa: b,
-            len: c,
-        });
+        return Some(HostCall::Region { t, gpa: b, len: c });
     }
     if word == b"tables".as_slice() {
-        return Some(HostCall::Tables {
-            t: a,
-            base: b,
-            n: c,
-        });
+        return Some(HostCall::Tables { t, base: b, n: c });
     }
     if word == b"vcpu".as_slice() {
-        return Some(HostCall::Vcpu {
-            t: a,
-            v: b,
-            state: c,
-        });
+        return Some(HostCall::Vcpu { t, v: b, state: c });
     }
     if word == b"finalize".as_slice() {
-        return Some(HostCall::Finalize {
-            t: a,
-            pc: b,
-            arg: c,
-        });
+        return Some(HostCall::Finalize { t, pc: b, arg: c });
     }
     if word == b"run".as_slice() {
-        return Some(HostCall::Run {
-            t: a,
-            v: b,
-            fuel: c,
-        });
+        return Some(HostCall::Run { t, v: b, fuel: c });
     }
     if word == b"invalidate".as_slice() {
-        return Some(HostCall::Invalidate { t: a, gpa: b, n: c });
+        return Some(HostCall::Invalidate { t, gpa: b, n: c });
     }
     if word == b"validate".as_slice() {
-        return Some(HostCall::Validate { t: a, gpa: b, n: c });
+        return Some(HostCall::Validate { t, gpa: b, n: c });
     }
     if word == b"remove".as_slice() {
-        return Some(HostCall::Remove { t: a, gpa: b, n: c });
+        return Some(HostCall::Remove { t, gpa: b, n: c });
     }
     if word == b"inject".as_slice() {
-        return Some(HostCall::Inject { t: a, v: b, id: c });
+        return Some(HostCall::Inject { t, v: b, id: c });
     }
     None
 }
