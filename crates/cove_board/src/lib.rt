@@ -1,7 +1,7 @@
 #![tactic(auto)]
 //! The shared words of a board, on which harts walk without a lock while others store. Proved, by the clauses of
-//! [`Board`] and [`Held`]: one rule holds between any two atomic steps of any number of passes, a walk is one load, and
-//! a held pass is [`cove_base::Words`] that allow exactly the lawful stores. The rule stands in specs/Ruled.antt, on the
+//! [`Board`] and [`Held`]: one rule holds between any two atomic steps of any number of passes, a walk comes to what
+//! one loaded word says, and a held pass is [`cove_base::Words`] that allow exactly the lawful stores. The rule stands in specs/Ruled.antt, on the
 //! definitions of `cove_model`; the steps are those of the kit's `atomic_table`.
 
 mod boards;

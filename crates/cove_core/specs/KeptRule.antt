@@ -36,7 +36,7 @@ KeptHartsLive =
     → IsTrue (is_within_limits script) → IsKept script words mon
     → Fits script mon.history held → IsLive script mon.history words (holding held)
 
--- each page that a hart that fits names, by its ring or by an unused walk, is one that the words let it use: the
+-- each host page that a hart that fits names, by its ring of host pages or by an unused walk, is one that the words let it use: the
 -- host's, or in conversion, and the hart has answered no later epoch
 abbrev pub KeptHartsUse : Type 0
 KeptHartsUse =

@@ -55,7 +55,8 @@ IsTold words rings (Some (Host p, Failed)) = found p.0 rings.hosts ≡ None
 IsTold words rings (Some (Fetch g, way)) = ⊥
 IsTold words rings (Some (Access g, way)) = ⊥
 
--- a page that the entry gave to another is named by no ring of the hart, and no unused walk of it found the page
+-- a page that the entry gave to another is named by no host ring of the hart, and no unused walk of it to a host page found
+-- the page; of rings of guest pages nothing is said, while no guest runs
 abbrev pub IsClear : ScriptValue → (before : List Entry) → Entry → HartValue → Type 0
 IsClear script before entry held =
     (p : ℕ)
@@ -79,7 +80,7 @@ pub record IsMade (script : ScriptValue) (before now : List ℕ) (old new : Mon)
   pub fits : Fits script new.history left
   pub others : (other : HartValue) → other.hart ≢ held.hart → Fits script old.history other → Fits script new.history other
   pub told : IsTold before held.rings (touched (after script old.history) held.hart entry.event)
-  -- no ring and no unused walk names a page whose holder changed
+  -- no host ring and no unused walk to a host page names a page whose holder changed
   pub clear : IsClear script old.history entry left
   pub others_clear : (other : HartValue) → other.hart ≢ held.hart → Fits script old.history other → IsClear script old.history entry other
   pub stores : StoresAndCounts script old.history held.hart entry before now

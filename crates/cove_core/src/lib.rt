@@ -5,7 +5,7 @@
 //! state words and ground stood for, the answer is that state's, and they stand for the state after it. The one
 //! theorem is the contract of [`event_step`]: it keeps a history legal and cached, its words, ground and progress
 //! standing for the state after it, and every hart fitting it. Its words are in specs/Kept, specs/Made and
-//! specs/Stepped. [`kept_law`] says that every page which a hart names then is one that the words let it use.
+//! specs/Stepped. [`kept_law`] says that every host page which a hart names then is one that the words let it use.
 //! [`play`] takes the turns of a script over words of one owner, and its history is the one that the script plays.
 //! It stands on the laws of `cove_model` and `cove_tvm`, on the calls of `cove_host`, and on the frames and rings below it.
 

@@ -169,7 +169,7 @@ FittingHartsLive =
     → IsTrue (is_within_limits script) → IsMonitored script history words words
     → Fits script history held → IsLive script history words (holding held)
 
--- So each page that such a hart names, by its ring or by an unused walk, is one of the board that it may use.
+-- So each host page that such a hart names, by its ring of host pages or by an unused walk, is one of the board that it may use.
 abbrev pub FittingHartsUse : Type 0
 FittingHartsUse =
     (script : ScriptValue) (history : List Entry) (words : List ℕ) (held : HartValue) (p : ℕ)

@@ -3,7 +3,7 @@ ghost use Rattle.cove_model.specs.FitsAlone.{FitsFitAlone, OthersLeaveAlone, Rul
 ghost use Rattle.cove_model.specs.TableLaw.{CountsKeepGuests, ListsKeepGuests, StoresCountShared, StoresKeepEntered, StoresKeepGuests, StoresKeepOwned, StoresKeepPresent, ZerosKeepOwned};
 
 /// The store law. While a hart is held, each lawful store that it makes, and each list of them, keeps what holds of
-/// the harts: each page that the ring of a hart names, or that its unused walk found, is one that it may use by the
+/// the harts: each host page that the ring of a hart names, or that its unused walk found, is one that it may use by the
 /// words, or that was the host's since its last entry. Of the hart that stores, all but its answered number keeps it.
 /// So does the load of a walk between any two stores, and so does the store of the count, for an entry that may be
 /// made. It runs no code.
@@ -32,8 +32,8 @@ pub fn table_law()
 {}
 
 /// The law of the boundary between two entries, where no store is pending. What the rule says of a hart holds of each
-/// hart that fits the history, and of each that has just its translations: each page that its ring names, or that its
-/// unused walk found, is one that it may use by the words. And what an unused walk found by the rule was the host's
+/// hart that fits the history, and of each that has just its translations: each host page that its ring names, or that
+/// its unused walk found, is one that it may use by the words. And what an unused walk found by the rule was the host's
 /// since its hart's last entry. At the opening the rule holds. It runs no code.
 pub fn boundary_law()
     ensures live { FittingHartsLive }

@@ -1,7 +1,7 @@
 #![tactic(auto)]
 //! The monitor on threads: a hart walks the board with no lock, and makes its entries under the monitor's, while others
-//! walk. Proved, by the clauses of [`Monitor`]: a walk is one load of the word of the page that the hart needs; an event
-//! makes one entry of the hart, or says why none; and the history at the end is one of the script, in which the entries
+//! walk. Proved, by the clauses of [`Monitor`]: a walk comes to what one loaded word of the page that the hart needs
+//! says; an event makes one entry of the hart, or says why none; and the history at the end is one of the script, in which the entries
 //! of each hart are those that it made. What a [`Hart`] keeps stands in specs/Seats.antt, what its walks and events leave
 //! in specs/Events.antt. It stands on the passes of `cove_board` and on the entries of `cove_core`.
 
