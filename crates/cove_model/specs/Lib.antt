@@ -25,6 +25,7 @@ pub mod LawfulStores
 pub mod WordLaws
 pub mod StoreLaw
 pub mod TableExamples
+pub mod WorkedRows
 pub mod TableLaw
 pub mod ScriptText
 pub mod LawfulCounts

@@ -13,6 +13,7 @@ mod script_examples;
 mod script_laws;
 mod standing;
 mod table_examples;
+mod worked_rows;
 
 pub use examples::{
     worked_fills, worked_lines, worked_plays, worked_quiet, worked_refusals, worked_reports,
@@ -32,3 +33,7 @@ pub use script_examples::{refused_lines, worked_scripts};
 pub use script_laws::fronts_are_scripts;
 pub use standing::{frames_law, lawful_law, telling_law, words_law};
 pub use table_examples::worked_tables;
+pub use worked_rows::{
+    worked_bindings, worked_blockings, worked_conversions, worked_lives, worked_mappings,
+    worked_run_calls,
+};
