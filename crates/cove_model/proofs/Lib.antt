@@ -21,6 +21,7 @@ pub mod GrammarLimits
 pub mod StoreLawProofs
 pub mod BoardRuleProofs
 pub mod WalkRuleProofs
+pub mod Waking
 pub mod AloneProofs
 pub mod HostMemoryProofs
 pub mod FirstCheckProofs

@@ -26,6 +26,7 @@ pub mod WordLaws
 pub mod StoreLaw
 pub mod TableExamples
 pub mod WorkedRows
+pub mod WorkedDeeds
 pub mod TableLaw
 pub mod ScriptText
 pub mod LawfulCounts

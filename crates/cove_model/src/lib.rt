@@ -13,6 +13,7 @@ mod script_examples;
 mod script_laws;
 mod standing;
 mod table_examples;
+mod worked_deeds;
 mod worked_rows;
 
 pub use examples::{
@@ -33,6 +34,9 @@ pub use script_examples::{refused_lines, worked_scripts};
 pub use script_laws::fronts_are_scripts;
 pub use standing::{frames_law, lawful_law, telling_law, words_law};
 pub use table_examples::worked_tables;
+pub use worked_deeds::{
+    worked_exits, worked_guest_calls, worked_instructions, worked_offers, worked_shares,
+};
 pub use worked_rows::{
     worked_bindings, worked_blockings, worked_conversions, worked_lives, worked_mappings,
     worked_run_calls,
