@@ -1,5 +1,5 @@
 -- Which vCPUs an interrupt wakes, by computing the least of the identities.
-use Rattle.std.proofs.Common.{◌≡◌, ◌∷◌, [], true, refl}
+use Rattle.std.proofs.Common.{◌≡◌, true, refl}
 use Rattle.cove_base.specs.InterruptFiles.{identities, least, empty_file}
 use Rattle.cove_model.specs.Deeds.{Executes, Waits}
 use Rattle.cove_model.specs.WorkedDeeds.{doing_with, signalled}

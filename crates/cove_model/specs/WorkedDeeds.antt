@@ -52,15 +52,15 @@ answered S a0 a1 act = cpu_in (acted (on_first (λ cpu. record cpu { x = asking 
 
 -- ---- TVMs by their pages
 
--- a TVM of 64 private pages; with 16 shared rows of a page each; with 15 of them, and a row of three pages
+-- a TVM of 64 private pages; with so many shared rows of a page each; with 15 of them, and a row of three pages
 abbrev pub wide : Tvm → Tvm
 wide tvm = record tvm { regions = record { first = 16; count = 64 } ∷ []; shared = [] }
 
-abbrev pub striped : Tvm → Tvm
-striped tvm = record (wide tvm) { shared = map (λ i. 20 + 2 * i) (range_with_len 0 16) }
+abbrev pub striped : (rows : ℕ) → Tvm → Tvm
+striped rows tvm = record (wide tvm) { shared = map (λ i. 20 + 2 * i) (range_with_len 0 rows) }
 
 abbrev pub one_long : Tvm → Tvm
-one_long tvm = record (wide tvm) { shared = map (λ i. 20 + 2 * i) (range_with_len 0 15) ++ 60 ∷ 61 ∷ 62 ∷ [] }
+one_long tvm = record (wide tvm) { shared = (striped 15 tvm).shared ++ 60 ∷ 61 ∷ 62 ∷ [] }
 
 -- a TVM of two regions, one behind the other
 abbrev pub halved : Tvm → Tvm
@@ -77,7 +77,7 @@ readable = with_page 7 (Host (range_with_len 11 8)) (with_tvm (λ tvm. record tv
 abbrev pub two_instructions : State
 two_instructions = with_tvm (λ tvm. record tvm { mappings = mapped 16 (OwnPage 4 (0x0002b303000112b7 ∷ [])) Present ∷ [] })
 
--- numbers as bytes, each of eight, the low one first
+-- numbers below 256 as eight bytes each, the low one first
 abbrev pub as_bytes : List ℕ → List ℕ
 as_bytes numbers = flat_map (λ n. n ∷ replicate 7 0) numbers
 

@@ -1,6 +1,5 @@
 -- States by which the rows of calls of the host are read, one check and one outcome at a time.
 use Rattle.std.specs.Prelude.{ℕ, false, List, [], ◌∷◌, map, filter, replicate, slice_set, Option, Some, None}
-use Rattle.std.specs.Option.{option_map}
 use Rattle.cove_base.specs.InterruptFiles.{InterruptFile, empty_file}
 use Rattle.cove_model.specs.Answers.{effect}
 use Rattle.cove_model.specs.Examples.{board}
@@ -10,7 +9,7 @@ use Rattle.cove_model.specs.HostCalls.{rule}
 use Rattle.cove_model.specs.Mappings.{mapping_of}
 use Rattle.cove_model.specs.Owners.{Owner, Host, Free, Given, AsState, page_at}
 use Rattle.cove_model.specs.Refusals.{Check}
-use Rattle.cove_model.specs.States.{Seat, State, cpu_at, on_cpu, on_tvm, opening, seated, tvm_at}
+use Rattle.cove_model.specs.States.{State, cpu_at, on_cpu, on_tvm, opening, seated, tvm_at}
 use Rattle.cove_model.specs.Tvms.{Backing, HostPage, Blocked, Mapping, Present, Unbinding, Cpu, Tvm}
 use Rattle.cove_model.specs.Types.{HostCall, Reply, Status}
 
@@ -65,14 +64,14 @@ with_cpu v how = with_tvm (on_cpu v how)
 abbrev pub all_free : State
 all_free = record (opening (board 2 [] [] [])) { pages = replicate 16 Free }
 
--- the TVM with no mapping; with its mappings while it is built; with no vCPU
+-- the TVM with no mapping; with its mappings while it is built
 abbrev pub unmapped : State
 unmapped = with_tvm (λ tvm. record tvm { mappings = [] })
 
 abbrev pub mapped_early : State
 mapped_early = with_tvm (λ tvm. record tvm { runnable = false })
 
--- a TVM whose region is guest page 512, which no table page serves; and one that maps it in no region
+-- a TVM whose one region is guest page 512, which no table page serves; one that maps that page, in no region
 abbrev pub far : Tvm → Tvm
 far tvm = record tvm { regions = record { first = 512; count = 1 } ∷ []; mappings = [] }
 
@@ -83,7 +82,7 @@ stray tvm = record tvm { mappings = mapped 512 (HostPage 7) Present ∷ [] }
 abbrev pub worded : State
 worded = with_page 8 (Host (5 ∷ [])) (with_page 9 (Host (6 ∷ [])) (with_page 11 Free building))
 
--- a private guest page is mapped so, blocked, and waits for these harts after a fence
+-- the private guest page 20 is mapped so and blocked, and after a fence it waits for these harts
 abbrev pub waiting_so : Backing → (waiting : List ℕ) → State
 waiting_so backing waiting = with_tvm (λ tvm. record tvm { mappings = mapped 20 backing (Blocked [] (Some waiting)) ∷ [] })
 

@@ -5,12 +5,11 @@ ghost use Rattle.std.specs.Prelude.{◌≡◌, ◌-◌, ◌^◌, ◌∷◌, ◌+
 ghost use Rattle.std.specs.List.{range_with_len};
 ghost use Rattle.cove_base.specs.Evidence.{evidence};
 ghost use Rattle.cove_base.specs.InterruptFiles.{empty_file};
-ghost use Rattle.cove_base.specs.Measurement.{registers_of};
 ghost use Rattle.cove_base.specs.declared.calls.GuestAct.TheVariants.{Allow, Deny, Extend, Other, Share, Unshare};
 ghost use Rattle.cove_base.specs.declared.events.Event.TheVariants.{Exec, Exit, Guest};
 ghost use Rattle.cove_base.specs.declared.events.Exit.TheVariants.{Fault, Fuel, Kicked, Trap, Wfi};
 ghost use Rattle.cove_base.specs.declared.events.How.TheVariants.{Hit, Walk};
-ghost use Rattle.cove_base.specs.declared.statuses.Status.TheVariants.{Denied, Failed, InvalidAddress, InvalidParam, NotSupported, Success};
+ghost use Rattle.cove_base.specs.declared.statuses.Status.TheVariants.{Failed, InvalidAddress, InvalidParam, NotSupported, Success};
 ghost use Rattle.cove_base.specs.declared.walks.Target.TheVariants.{Access, Fetch};
 ghost use Rattle.cove_model.specs.Deeds.{Asks, asked_act, deed_of, Executes, Fetches, Loads, next_place, Stores, Tires, Traps, Waits};
 ghost use Rattle.cove_model.specs.Examples.{board};
@@ -18,9 +17,9 @@ ghost use Rattle.cove_model.specs.GuestCalls.{evidence_at, overwritten, words_in
 ghost use Rattle.cove_model.specs.GuestExamples.{first_cpu, mapped, running, tenant};
 ghost use Rattle.cove_model.specs.HostCalls.{ForgetsGuests, Keeps};
 ghost use Rattle.cove_model.specs.Mappings.{mapping_of};
-ghost use Rattle.cove_model.specs.Offers.{kicked_offer, Nothing, offer, Single, target_of, Touch};
+ghost use Rattle.cove_model.specs.Offers.{Nothing, offer, Single, target_of, Touch};
 ghost use Rattle.cove_model.specs.Owners.{has, Host, page_at, zeros};
-ghost use Rattle.cove_model.specs.States.{cpu_at, new_cpu, on_tvm, tvm_at};
+ghost use Rattle.cove_model.specs.States.{cpu_at, new_cpu, tvm_at};
 ghost use Rattle.cove_model.specs.Steps.{after_event, line_ended};
 ghost use Rattle.cove_model.specs.Translations.{Came, Failed as NotFound, forgets_by, touched};
 ghost use Rattle.cove_model.specs.Tvms.{Begun, Blocked, HostPage, OwnPage, Present};
@@ -37,12 +36,12 @@ pub fn worked_shares()
     ensures share_of_17_pages { failing_act (with_tvm wide) (Share 0x10000 0x11000) ≡ answers (InvalidAddress ∷ []) }
     ensures share_of_a_shared_page { failing_act running (Share 0x12000 0x1000) ≡ answers (InvalidAddress ∷ []) }
     ensures share_in_no_region { failing_act running (Share 0x15000 0x1000) ≡ answers (InvalidAddress ∷ []) }
-    ensures share_over_two_regions { failing_act (with_tvm halved) (Share 0x14000 0x2000) ≡ [] }
+    ensures share_in_the_second_region { failing_act (with_tvm halved) (Share 0x14000 0x2000) ≡ [] }
     ensures share_across_two_regions { failing_act (with_tvm (λ tvm. record (halved tvm) { shared = [] })) (Share 0x13000 0x2000) ≡ answers (InvalidAddress ∷ []) }
-    ensures share_of_a_row_that_is_the_last { failing_act (with_tvm one_long) (Share 0x15000 0x1000) ≡ [] }
-    ensures share_of_a_row_too_many { failing_act (with_tvm striped) (Share 0x10000 0x1000) ≡ answers (Failed ∷ []) }
-    ensures share_that_joins_rows { failing_act (with_tvm striped) (Share 0x15000 0x1000) ≡ [] }
-    ensures share_in_order { failing_act (with_tvm striped) (Share 0x100001 0x11001) ≡ answers (replicate 4 InvalidAddress ++ Failed ∷ []) }
+    ensures share_of_the_last_row { failing_act (with_tvm (striped 15)) (Share 0x10000 0x1000) ≡ [] }
+    ensures share_of_a_row_too_many { failing_act (with_tvm (striped 16)) (Share 0x10000 0x1000) ≡ answers (Failed ∷ []) }
+    ensures share_that_joins_rows { failing_act (with_tvm (striped 16)) (Share 0x15000 0x1000) ≡ [] }
+    ensures share_in_order { failing_act (with_tvm (striped 16)) (Share 0x100001 0x11001) ≡ answers (replicate 4 InvalidAddress ++ Failed ∷ []) }
     ensures shares { tvm_after_act (joined_by 1 running) (Share 0x10000 0x1000) ≡ record tenant {
       shared = 18 ∷ 19 ∷ 16 ∷ [];
       mappings = mapped 16 (OwnPage 4 zeros) (Blocked (1 ∷ []) None) ∷ mapped 17 (OwnPage 5 zeros) (Blocked (0 ∷ []) None)

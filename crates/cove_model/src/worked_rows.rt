@@ -1,17 +1,17 @@
 //! Worked rows of the calls of the host, which the checker computes: each check where it fails alone, the order of those
 //! that fail together, and what an accepted call changes and what it leaves. Each call by its rule, built or not.
 
-ghost use Rattle.std.specs.Prelude.{◌≡◌, ◌^◌, ◌∷◌, ◌++◌, [], false, map, None, replicate, Some, true};
+ghost use Rattle.std.specs.Prelude.{◌≡◌, ◌∷◌, ◌++◌, [], false, map, None, replicate, Some, true};
 ghost use Rattle.cove_base.specs.InterruptFiles.{empty_file, raised};
 ghost use Rattle.cove_base.specs.Measurement.{FinalizeRecord, PageRecord};
 ghost use Rattle.cove_base.specs.declared.calls.HostCall.TheVariants.{Bind, Convert, Create, Destroy, Finalize, GlobalFence, Info, Inject, Invalidate, Kick, LocalFence, Measured, Reclaim, Region, Remove, Run, Shared, Tables, TvmFence, Unbind, Unbound, Validate, Vcpu, Zero};
 ghost use Rattle.cove_base.specs.declared.statuses.Status.TheVariants.{AlreadyAvailable, AlreadyStarted, AlreadyStopped, Denied, Failed, InvalidAddress, InvalidParam};
 ghost use Rattle.cove_model.specs.Answers.{outcome};
 ghost use Rattle.cove_model.specs.GuestExamples.{building, first_cpu, mapped, running, tenant};
-ghost use Rattle.cove_model.specs.GuestPages.{is_private, is_shared, missing_tables};
+ghost use Rattle.cove_model.specs.GuestPages.{is_private, missing_tables};
 ghost use Rattle.cove_model.specs.HostCalls.{ForgetsAll, ForgetsGuests, Keeps, rule};
 ghost use Rattle.cove_model.specs.Owners.{AsData, AsRoot, AsState, AsTable, AsVcpu, Converting, Free, Given, Host, is_free, zeros};
-ghost use Rattle.cove_model.specs.States.{find_tvm, new_cpu, on_tvm};
+ghost use Rattle.cove_model.specs.States.{new_cpu, on_tvm};
 ghost use Rattle.cove_model.specs.Tvms.{Begun, Blocked, HostPage, new_tvm, NotBegun, OwnPage, Present};
 ghost use Rattle.cove_model.specs.WorkedRows.{after_call, all_free, answer, answers, bound, bound_so, cpu_after, crowded, failing, far, filed, joined_by, mapped_early, mapping_after, neighbours, page_after, pending_nine, stray, tvm_after, unmapped, waiting_so, with_cpu, with_page, with_tvm, worded};
 
