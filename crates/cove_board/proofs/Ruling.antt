@@ -5,7 +5,7 @@ use Rattle.atomic_table.proofs.Lists.{at_last, at_longer, set_else, set_here}
 use Rattle.cove_base.specs.Scripts.{ScriptValue}
 use Rattle.cove_board.proofs.Seating.{carries_last, carries_longer, carries_set, each_end, each_set, hart_beside, no_monitor, one_view, there_within}
 use Rattle.cove_board.specs.Parts.{HartPart, MonitorPart, Part, both, dealt_monitor, hart_alone, left_part, monitor_alone, new_part, spent}
-use Rattle.cove_board.specs.Ruled.{Carries, HartSits, IsMonitor, IsOf, IsPart, IsRuled, MonitorSits, Sits}
+use Rattle.cove_board.specs.Ruled.{Carries, HartSits, IsMonitor, IsPartOf, IsPart, IsRuled, MonitorSits, Sits}
 use lib.ListN.{get_elem?}
 use mathlib.Core.Option.{some}
 
@@ -51,7 +51,7 @@ both_step script words views id m m' p p' ruled at same dealt monitor part keeps
       there = λ h below.
           let was = ruled.there h (subst (λ n. h < n) dealt_is below) in
           carries_set views id (both m' p') (ruled.seats h) h inside
-          (λ e. same ∙ subst (λ (v : Part). IsOf h v.hart) (one_view views id was.0 (both m p) (subst (λ n. get_elem? views n ≡ some was.0) e was.1) at) was.2)
+          (λ e. same ∙ subst (λ (v : Part). IsPartOf h v.hart) (one_view views id was.0 (both m p) (subst (λ n. get_elem? views n ≡ some was.0) e was.1) at) was.2)
           was;
     }
 
@@ -76,7 +76,7 @@ hart_step script words views id p p' ruled at same mark moves =
       there = λ h below.
           let was = ruled.there h below in
           carries_set views id (hart_alone p') (ruled.seats h) h inside
-          (λ e. same ∙ subst (λ (v : Part). IsOf h v.hart) (one_view views id was.0 (hart_alone p) (subst (λ n. get_elem? views n ≡ some was.0) e was.1) at) was.2)
+          (λ e. same ∙ subst (λ (v : Part). IsPartOf h v.hart) (one_view views id was.0 (hart_alone p) (subst (λ n. get_elem? views n ≡ some was.0) e was.1) at) was.2)
           was;
     }
   where
@@ -121,13 +121,13 @@ join_step script words views id other m p ruled at apart there =
       there = λ h below.
           let was = ruled.there h below in
           carries_set joined other spent (ruled.seats h) h inside_other
-          (λ e. absurd (no_hart h (subst (λ (v : Part). IsOf h v.hart) (one_view views other was.0 (monitor_alone m) (subst (λ n. get_elem? views n ≡ some was.0) e was.1) was_other) was.2)))
+          (λ e. absurd (no_hart h (subst (λ (v : Part). IsPartOf h v.hart) (one_view views other was.0 (monitor_alone m) (subst (λ n. get_elem? views n ≡ some was.0) e was.1) was_other) was.2)))
           (carries_set views id (both m p) (ruled.seats h) h inside
-          (λ e. subst (λ (v : Part). IsOf h v.hart) (one_view views id was.0 (hart_alone p) (subst (λ n. get_elem? views n ≡ some was.0) e was.1) at) was.2)
+          (λ e. subst (λ (v : Part). IsPartOf h v.hart) (one_view views id was.0 (hart_alone p) (subst (λ n. get_elem? views n ≡ some was.0) e was.1) at) was.2)
           was);
     }
   where
-    no_hart : (h : ℕ) → IsOf h None → ⊥
+    no_hart : (h : ℕ) → IsPartOf h None → ⊥
     no_hart h none = none
 
 -- ---- parting: the monitor's part goes to a new pass
@@ -161,7 +161,7 @@ part_step script words views id m p ruled at unmarked =
           let was = ruled.there h below in
           carries_longer parted (monitor_alone m ∷ []) (ruled.seats h) h
           (carries_set views id left (ruled.seats h) h inside
-          (λ e. subst (λ (v : Part). IsOf h v.hart) (one_view views id was.0 (both m p) (subst (λ n. get_elem? views n ≡ some was.0) e was.1) at) was.2)
+          (λ e. subst (λ (v : Part). IsPartOf h v.hart) (one_view views id was.0 (both m p) (subst (λ n. get_elem? views n ≡ some was.0) e was.1) at) was.2)
           was);
     }
   where
@@ -212,7 +212,7 @@ deal_step script words views id m ruled at new =
             subst (λ k. Carries (dealt ++ hart_alone (new_part m.script m.dealt) ∷ []) k h) (sym (seat_old n h lower))
             (carries_longer dealt (hart_alone (new_part m.script m.dealt) ∷ []) (ruled.seats h) h
             (carries_set views id deals (ruled.seats h) h inside
-            (λ e. absurd (no_hart h (subst (λ (v : Part). IsOf h v.hart) (one_view views id was.0 (monitor_alone m) (subst (λ n. get_elem? views n ≡ some was.0) e was.1) at) was.2)))
+            (λ e. absurd (no_hart h (subst (λ (v : Part). IsPartOf h v.hart) (one_view views id was.0 (monitor_alone m) (subst (λ n. get_elem? views n ≡ some was.0) e was.1) at) was.2)))
             was))
       ];
     }
@@ -226,7 +226,7 @@ deal_step script words views id m ruled at new =
     seat_old : (n h : ℕ) → h < m.dealt → seats' n h ≡ ruled.seats h
     seat_old n h lower = ap (λ b. cond b n (ruled.seats h)) (ne_eqb h m.dealt (λ e. omega arith))
 
-    no_hart : (h : ℕ) → IsOf h None → ⊥
+    no_hart : (h : ℕ) → IsPartOf h None → ⊥
     no_hart h none = none
 
     more_dealt : IsMonitor script m → IsMonitor script (dealt_monitor m)

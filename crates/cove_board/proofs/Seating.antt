@@ -4,7 +4,7 @@ use Rattle.std.proofs.lemmas.Bool.{cases_eq, false≢true}
 use Rattle.atomic_table.proofs.Lists.{at_last, at_longer, at_set, set_else, set_here}
 use Rattle.cove_base.specs.Scripts.{ScriptValue}
 use Rattle.cove_board.specs.Parts.{HartPart, MonitorPart, Part}
-use Rattle.cove_board.specs.Ruled.{Carries, HartSits, IsOf, IsPart, MonitorSits}
+use Rattle.cove_board.specs.Ruled.{Carries, HartSits, IsPartOf, IsPart, MonitorSits}
 use lib.ListN.{get_elem?}
 use mathlib.Core.Option.{some, some-injective, some-ne-none}
 
@@ -37,7 +37,7 @@ module _ (P : ℕ → Part → Type 0) where
       ⊎_elim (others k v) (λ last. subst (λ n. P n v) (sym last.0) (subst (P (length views)) last.1 here)) (at_end views new v k at)
 
 -- the part of a hart that is carried goes on being so, where the view that changes still carries what it did
-pub carries_set : (views : List Part) (id : ℕ) (new : Part) (k h : ℕ) → id < length views → (k ≡ id → IsOf h new.hart) → Carries views k h → Carries (set views id new) k h
+pub carries_set : (views : List Part) (id : ℕ) (new : Part) (k h : ℕ) → id < length views → (k ≡ id → IsPartOf h new.hart) → Carries views k h → Carries (set views id new) k h
 carries_set views id new k h inside same carried =
     ⊎_elim
     (λ e. (new, subst (λ n. get_elem? (set views id new) n ≡ some new) (sym e) (set_here views id new inside), same e))
@@ -47,7 +47,7 @@ carries_set views id new k h inside same carried =
 pub carries_longer : (views more : List Part) (k h : ℕ) → Carries views k h → Carries (views ++ more) k h
 carries_longer views more k h carried = (carried.0, at_longer views more k carried.0 carried.1, carried.2)
 
-pub carries_last : (views : List Part) (new : Part) (h : ℕ) → IsOf h new.hart → Carries (views ++ new ∷ []) (length views) h
+pub carries_last : (views : List Part) (new : Part) (h : ℕ) → IsPartOf h new.hart → Carries (views ++ new ∷ []) (length views) h
 carries_last views new h of = (new, at_last views new (length views) refl, of)
 
 -- ---- a pass beside the one that steps

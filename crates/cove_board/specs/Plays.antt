@@ -12,13 +12,13 @@ Walks step before found after =
     after ≡ (hart_alone (walked_part (record { 0 = step.word }) found (hart_of before.0)), before.1)
 
 -- what both parts are after a load under the lock
-abbrev pub loaded : Part → (place found : ℕ) → Part
-loaded v place found = both (monitor_of v) (loaded_part place found (hart_of v))
+abbrev pub after_load : Part → (place found : ℕ) → Part
+after_load v place found = both (monitor_of v) (loaded_part place found (hart_of v))
 
 -- a load under the lock finds the word of the monitor's part
 abbrev pub Loads : Step Entry → Me Entry Part → (found : ℕ) → Me Entry Part → Type 0
 Loads step before found after =
-    (found ≡ slice_index (monitor_of before.0).now step.word) × (after ≡ (loaded before.0 step.word found, before.1))
+    (found ≡ slice_index (monitor_of before.0).now step.word) × (after ≡ (after_load before.0 step.word found, before.1))
 
 -- such a load also tells that both parts are right
 pub record Knows (step : Step Entry) (before : Me Entry Part) (found : ℕ) (after : Me Entry Part) : Type 0 where

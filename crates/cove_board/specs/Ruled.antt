@@ -51,13 +51,13 @@ abbrev pub Sits : ScriptValue → MonitorPart → (seat : ℕ) (seats : ℕ → 
 Sits script part seat seats id v = MonitorSits part seat id v.monitor × HartSits script part seat seats id v.hart
 
 -- the part of this hart is carried
-abbrev pub IsOf : (hart : ℕ) → Option HartPart → Type 0
-IsOf hart None = ⊥
-IsOf hart (Some p) = p.hart ≡ hart
+abbrev pub IsPartOf : (hart : ℕ) → Option HartPart → Type 0
+IsPartOf hart None = ⊥
+IsPartOf hart (Some p) = p.hart ≡ hart
 
 -- a pass at this seat carries the part of this hart
 abbrev pub Carries : List Part → (id hart : ℕ) → Type 0
-Carries views id hart = (v : Part) × (get_elem? views id ≡ some v) × IsOf hart v.hart
+Carries views id hart = (v : Part) × (get_elem? views id ≡ some v) × IsPartOf hart v.hart
 
 -- One pass carries the monitor's part, whose words are the shared ones, and one the part of each hart that was dealt.
 pub record IsRuled (script : ScriptValue) (words : List ℕ) (views : List Part) : Type 0 where

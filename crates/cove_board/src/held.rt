@@ -4,7 +4,7 @@ ghost use Rattle.std.specs.Prelude.{◌≡◌, ◌+◌, ◌^◌, ◌<◌, slice_
 ghost use Rattle.cove_base.specs.Places.{all_words, count_word};
 ghost use Rattle.cove_board.specs.Parts.{both, counted_monitor, counted_part, hart_alone, hart_of, left_part, monitor_alone, monitor_of, stored_monitor, stored_part};
 ghost use Rattle.cove_board.specs.Passes.{IsHeld};
-ghost use Rattle.cove_board.specs.Plays.{loaded};
+ghost use Rattle.cove_board.specs.Plays.{after_load};
 ghost use Rattle.cove_model.specs.LawfulCounts.{IsCountable};
 ghost use Rattle.cove_model.specs.LawfulStores.{IsLawful};
 
@@ -57,7 +57,7 @@ impl Board {
         requires place { place < all_words self.now.script.pages self.now.script.harts }
         ensures word { result ≡ slice_index (monitor_of seat.old.me.0).now place }
         ensures table { seat.new.table_id ≡ seat.old.table_id }
-        ensures parts { seat.new.me ≡ (loaded seat.old.me.0 place result, seat.old.me.1) }
+        ensures parts { seat.new.me ≡ (after_load seat.old.me.0 place result, seat.old.me.1) }
     {
         self.table.shared.load::<Loads>(seat, place as usize)
     }

@@ -5,11 +5,13 @@
 //! definitions of `cove_model`; the steps are those of the kit's `atomic_table`.
 
 mod boards;
+mod examples;
 mod held;
 mod passes;
 mod views;
 
 pub use boards::{Board, Boarded};
+pub use examples::{worked_guards, worked_parts, worked_passes};
 pub use held::Held;
 pub use passes::{Pass, Passes};
 pub use views::{BoardRule, View};

@@ -7,7 +7,7 @@ use Rattle.cove_base.specs.Places.{all_words}
 use Rattle.cove_base.specs.Scripts.{ScriptValue}
 use Rattle.cove_base.specs.declared.events.Entry.{Entry}
 use Rattle.cove_core.proofs.Opening.{opening_fits, opening_kept, opening_progress}
-use Rattle.cove_core.specs.Plays.{IsFresh, HartFits}
+use Rattle.cove_core.specs.Plays.{IsUnplayed, HartFits}
 use Rattle.cove_core.specs.Seats.{AreNew, AtFirstLines, IsNew}
 use Rattle.cove_hart.specs.declared.states.HartState.{HartState}
 use Rattle.cove_tvm.specs.GroundLaws.{IsNewGround}
@@ -30,7 +30,7 @@ pub built_fresh :
     (script : ScriptValue) (G : Ground) (history : List Entry) (places words : List ℕ) (harts : List HartState)
     → IsNewGround script G → history ≡ [] → AtFirstLines script script.harts places
     → words ≡ replicate (all_words script.pages script.harts) 0 → AreNew script script.harts harts
-    → IsFresh script (record { mon = record { ground = G; history = history; progress = places }; words = words; harts = harts; rounds_made = 0 })
+    → IsUnplayed script (record { mon = record { ground = G; history = history; progress = places }; words = words; harts = harts; rounds_made = 0 })
 built_fresh script G history places words harts opens unplayed first zeros new =
     record {
       ready = record {

@@ -20,7 +20,7 @@ use Rattle.cove_base.specs.declared.scripts.ScriptLine.{ScriptLine}
 use Rattle.cove_base.specs.declared.walks.Noted.{Noted}
 use Rattle.cove_base.specs.declared.walks.Target.{Target}
 use Rattle.cove_base.specs.declared.walks.Target.TheVariants as targets
-use Rattle.cove_core.specs.Reached.{HasWalked, ComesTo, is_found}
+use Rattle.cove_core.specs.Reached.{HasUnusedWalk, ComesTo, finds_page}
 use Rattle.cove_core.specs.declared.accesses.Reach.{Reach}
 use Rattle.cove_core.specs.declared.accesses.Reach.TheVariants as reach
 use Rattle.cove_hart.specs.Needs.{access_need}
@@ -125,11 +125,11 @@ module _ (script : ScriptValue) (H : List Entry) (h ended : ℕ) (counts : ended
   pub target_is : (p : ℕ) → accessed_page l.line ≡ Some p → (t : Target) → IsSought script H h t → t ≡ host_at p
   target_is p asks t is = sym (same_Some (host_at p) t (sym (aim_of_page l.line p asks) ∙ aim_is t is))
 
-  walk_for : (p : ℕ) → accessed_page l.line ≡ Some p → (rings : HartRings) (finding : Bool) (noted : Option Noted) → HasWalked noted finding → UnusedFits script H h noted → rings ≡ walked_rings (rings_of (tlb script H h)) noted → IsWalkFor script H h p rings (rings_of (tlb script H h)) finding
+  walk_for : (p : ℕ) → accessed_page l.line ≡ Some p → (rings : HartRings) (finding : Bool) (noted : Option Noted) → HasUnusedWalk noted finding → UnusedFits script H h noted → rings ≡ walked_rings (rings_of (tlb script H h)) noted → IsWalkFor script H h p rings (rings_of (tlb script H h)) finding
   walk_for p asks rings finding None walked fits is = absurd walked
   walk_for p asks rings finding (Some noted) walked fits is = go noted.target noted.walked walked fits is
     where
-      go : (target : Target) (w : Walked) → is_found w ≡ finding → WalkFits script H h target w → rings ≡ rings_after (rings_of (tlb script H h)) target w → IsWalkFor script H h p rings (rings_of (tlb script H h)) finding
+      go : (target : Target) (w : Walked) → finds_page w ≡ finding → WalkFits script H h target w → rings ≡ rings_after (rings_of (tlb script H h)) target w → IsWalkFor script H h p rings (rings_of (tlb script H h)) finding
       go target (walks.Found page) e fits' is' =
           let same = target_is p asks target fits'.0 in
           let R = rings_of (tlb script H h) in
@@ -167,11 +167,11 @@ has_brought p pages =
     has_last (length (pages ++ p ∷ []) - ring_room) p pages (omega arith)
 
 module _ (script : ScriptValue) (limits : Limits script) (H : List Entry) (legal : Legal script H) (words : List ℕ) (stand : Stand script.pages script.harts words (after script H)) (held : HartValue) (fits : Fits script H held) (l : ScriptLine) (next : next_line script held.hart held.ended ≡ Some l) (p : ℕ) (asks : accessed_page l.line ≡ Some p) where
-  pub walk_is : (finding : Bool) → HasWalked held.walked finding → IsWalkFor script H held.hart p held.rings (rings_of (tlb script H held.hart)) finding
+  pub walk_is : (finding : Bool) → HasUnusedWalk held.walked finding → IsWalkFor script H held.hart p held.rings (rings_of (tlb script H held.hart)) finding
   walk_is finding walked = walk_for script H held.hart held.ended fits.counts l next p asks held.rings finding held.walked walked fits.walk fits.rings
 
   -- a walk that found none left the rings without the page
-  pub absent_now : HasWalked held.walked false → found p held.rings.hosts ≡ None
+  pub absent_now : HasUnusedWalk held.walked false → found p held.rings.hosts ≡ None
   absent_now walked =
       let w = walk_is false walked in
       ap (λ (r : HartRings). found p r.hosts) (w.without_it refl) ∙ ring_lacks (tlb script H held.hart).pages p w.absent

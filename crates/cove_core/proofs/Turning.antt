@@ -34,7 +34,7 @@ use Rattle.cove_core.proofs.Walking.{sought as sought_walk, unwalked_now, wanted
 use Rattle.cove_core.specs.Kept.{IsKept}
 use Rattle.cove_core.specs.Made.{IsMade, IsTold, IsWithinReach}
 use Rattle.cove_core.specs.Plays.{IsTurn, IsTurned, note_of}
-use Rattle.cove_core.specs.Reached.{HasWalked, IsPrepared, is_found}
+use Rattle.cove_core.specs.Reached.{HasUnusedWalk, IsPrepared, finds_page}
 use Rattle.cove_core.specs.Walks.{HavePageWords, IsFoundIn, IsWalked}
 use Rattle.cove_core.specs.declared.accesses.Reach.TheVariants as reach
 use Rattle.cove_core.specs.declared.monitors.Mon.{Mon}
@@ -95,7 +95,7 @@ module _ (script : ScriptValue) (limits : Limits script) (H : List Entry) (legal
       by_way (Came Walk) right' named = absurd (false≢true (sym right'.0 ∙ named))
       by_way Failed right' named = absurd (false≢true (sym right' ∙ named))
 
-  found_ends : HasWalked held.walked true → (way : Arrival) → Reaches script H held.hart (host_at p) way → IsToldHow words held.rings host p way → EndsSo holds Found host way
+  found_ends : HasUnusedWalk held.walked true → (way : Arrival) → Reaches script H held.hart (host_at p) way → IsToldHow words held.rings host p way → EndsSo holds Found host way
   found_ends has_walked way right told = by_way way right told (walk_is script limits H legal words stand held fits l next p asks true has_walked).absent
     where
       no_fault : found p held.rings.hosts ≡ None → host ≡ false → ⊥
@@ -109,7 +109,7 @@ module _ (script : ScriptValue) (limits : Limits script) (H : List Entry) (legal
       by_way (Came Walk) right' told' lacks = ends_by false Found (Came Walk) lacks (refl, refl)
       by_way Failed right' told' lacks = absurd (no_fault told'.0 told'.1)
 
-  missing_ends : HasWalked held.walked false → (way : Arrival) → Reaches script H held.hart (host_at p) way → IsToldHow words held.rings host p way → EndsSo holds Missing host way
+  missing_ends : HasUnusedWalk held.walked false → (way : Arrival) → Reaches script H held.hart (host_at p) way → IsToldHow words held.rings host p way → EndsSo holds Missing host way
   missing_ends has_walked way right told = by_way way right told (walk_is script limits H legal words stand held fits l next p asks false has_walked).absent
     where
       is_the_hosts : IsWithinReach words held.rings p → host ≡ true
@@ -127,13 +127,13 @@ module _ (script : ScriptValue) (limits : Limits script) (H : List Entry) (legal
   pub ends_so : (way : Arrival) → Reaches script H held.hart (host_at p) way → IsToldHow words held.rings host p way → EndsSo holds (note_of held.walked) host way
   ends_so way right told = go held.walked refl
     where
-      by_finding : (finding : Bool) → HasWalked held.walked finding → EndsSo holds (cond finding Found Missing) host way
+      by_finding : (finding : Bool) → HasUnusedWalk held.walked finding → EndsSo holds (cond finding Found Missing) host way
       by_finding true has_walked = found_ends has_walked way right told
       by_finding false has_walked = missing_ends has_walked way right told
 
       go : (o : Option Noted) → held.walked ≡ o → EndsSo holds (note_of o) host way
       go None e = unwalked_ends e way right
-      go (Some noted) e = by_finding (is_found noted.walked) (subst (λ o. HasWalked o (is_found noted.walked)) (sym e) refl)
+      go (Some noted) e = by_finding (finds_page noted.walked) (subst (λ o. HasUnusedWalk o (finds_page noted.walked)) (sym e) refl)
 
 -- ---- an entry is a turn
 
@@ -252,7 +252,7 @@ made_turned script within words now mon new kept held left fits prepared room en
 
 -- ---- a walk is a turn
 
-found_rightly : (words : List ℕ) (host : Bool) (p : ℕ) (w : Walked) → IsFoundIn words p w → ((host ≡ true) ↔ IsHostWord (get_or words (page_word p) 0)) → host ≡ is_found w
+found_rightly : (words : List ℕ) (host : Bool) (p : ℕ) (w : Walked) → IsFoundIn words p w → ((host ≡ true) ↔ IsHostWord (get_or words (page_word p) 0)) → host ≡ finds_page w
 found_rightly words is_hosts p (walks.Found page) finds tells = tells.1 finds.1
 found_rightly words true p (walks.Missing word) finds tells = absurd (finds.1 (tells.0 refl))
 found_rightly words false p (walks.Missing word) finds tells = refl
@@ -278,7 +278,7 @@ walk_turned script within words mon kept held left fits phase is_walked l next r
   still = λ no. absurd (false≢true (sym no));
   moved = λ moves play e mine same.
       let none = unwalked_now script mon.history held is_walked.page.0 (fits_fit_alone script mon.history held fits) (wanted script held phase is_walked.page is_walked.needed) in
-      walk_is_noted (is_found is_walked.walked)
+      walk_is_noted (finds_page is_walked.walked)
       (ap (λ (v : HartValue). note_of v.walked) (sym is_walked.left_is) ∙ sym (takes play e mine).own ∙ ap (λ (p : Play). p.notes held.hart) same ∙ mine ∙ ap note_of none);
 }
   where

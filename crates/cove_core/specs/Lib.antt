@@ -1,5 +1,6 @@
 pub mod Bytes
 pub mod CanCall
+pub mod Examples
 pub mod Kept
 pub mod KeptRule
 pub mod Made

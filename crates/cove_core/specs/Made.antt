@@ -84,3 +84,14 @@ pub record IsMade (script : ScriptValue) (before now : List ℕ) (old new : Mon)
   pub clear : IsClear script old.history entry left
   pub others_clear : (other : HartValue) → other.hart ≢ held.hart → Fits script old.history other → IsClear script old.history entry other
   pub stores : StoresAndCounts script old.history held.hart entry before now
+
+-- an entry of a hart, with what was there before it and what after it
+pub record Making : Type 0 where
+  pub script : ScriptValue
+  pub before : List ℕ
+  pub now : List ℕ
+  pub old : Mon
+  pub new : Mon
+  pub held : HartValue
+  pub left : HartValue
+  pub entry : Entry

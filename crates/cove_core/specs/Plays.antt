@@ -6,7 +6,7 @@ use Rattle.cove_base.specs.declared.events.Entry.{Entry}
 use Rattle.cove_base.specs.declared.limits.TheConstants.{ENTRY_LIMIT}
 use Rattle.cove_base.specs.declared.walks.Noted.{Noted}
 use Rattle.cove_core.specs.Kept.{IsKept}
-use Rattle.cove_core.specs.Reached.{is_found}
+use Rattle.cove_core.specs.Reached.{finds_page}
 use Rattle.cove_core.specs.declared.monitors.Mon.{Mon}
 use Rattle.cove_core.specs.declared.plays.Built.{Built}
 use Rattle.cove_hart.specs.HartStates.{hart_value}
@@ -17,7 +17,7 @@ use Rattle.cove_model.specs.Played.{Found, Missing, Note, Play, Unwalked, round,
 -- what a hart knows of its unused walk
 abbrev pub note_of : Option Noted → Note
 note_of None = Unwalked
-note_of (Some noted) = if is_found noted.walked then Found else Missing
+note_of (Some noted) = if finds_page noted.walked then Found else Missing
 
 -- a turn of a hart in a play leads to this history, and to the note of what the hart holds then; no other note changes
 pub record IsTurn (script : ScriptValue) (play : Play) (hart : ℕ) (history : List Entry) (walked : Option Noted) : Type 0 where
@@ -75,7 +75,7 @@ pub record AreRounds (script : ScriptValue) (play : Play) (made : ℕ) : Type 0 
   pub still : round ENTRY_LIMIT script (rounds ENTRY_LIMIT script before play) ≡ rounds ENTRY_LIMIT script before play
 
 -- A monitor and its harts before any turn.
-pub record IsFresh (script : ScriptValue) (built : Built) : Type 0 where
+pub record IsUnplayed (script : ScriptValue) (built : Built) : Type 0 where
   pub ready : AreReady script built.words built.mon built.harts
   pub unplayed : built.mon.history ≡ []
   pub unwalked : (k : ℕ) → IfSome (slice_get built.harts k) (λ hart. hart.walked ≡ None)

@@ -38,24 +38,24 @@ pub record IsPrepared (script : ScriptValue) (held : HartValue) : Type 0 where
   pub ready : access_need held (accessed_page line.line) ≡ needs.Event
 
 -- a walk found a page
-abbrev pub is_found : Walked → Bool
-is_found (walks.Found page) = true
-is_found (walks.Missing word) = false
+abbrev pub finds_page : Walked → Bool
+finds_page (walks.Found page) = true
+finds_page (walks.Missing word) = false
 
 -- the walk that was not used yet found a page, or none
-abbrev pub HasWalked : Option Noted → (finding : Bool) → Type 0
-HasWalked None finding = ⊥
-HasWalked (Some noted) finding = is_found noted.walked ≡ finding
+abbrev pub HasUnusedWalk : Option Noted → (finding : Bool) → Type 0
+HasUnusedWalk None finding = ⊥
+HasUnusedWalk (Some noted) finding = finds_page noted.walked ≡ finding
 
 -- A page is held by the ring; or a walk that was not used yet found it; or that walk found none, and it is the host's
 -- by now, so that it comes into the ring; or it is not.
 abbrev pub ComesTo : (words : List ℕ) (held : HartValue) (p : ℕ) (rings : HartRings) → Reach → Type 0
 ComesTo words held p rings reach.Held = (held.walked ≡ None) × (rings ≡ held.rings)
-ComesTo words held p rings reach.Walked = HasWalked held.walked true × (rings ≡ held.rings)
+ComesTo words held p rings reach.Walked = HasUnusedWalk held.walked true × (rings ≡ held.rings)
 ComesTo words held p rings reach.Fresh =
-    HasWalked held.walked false × IsHostWord (slice_index words (page_word p)) × (rings ≡ rings_with held.rings (Host (record { 0 = p })) (record { 0 = p }))
+    HasUnusedWalk held.walked false × IsHostWord (slice_index words (page_word p)) × (rings ≡ rings_with held.rings (Host (record { 0 = p })) (record { 0 = p }))
 ComesTo words held p rings reach.Absent =
-    HasWalked held.walked false × (IsHostWord (slice_index words (page_word p)) → ⊥) × (rings ≡ held.rings)
+    HasUnusedWalk held.walked false × (IsHostWord (slice_index words (page_word p)) → ⊥) × (rings ≡ held.rings)
 
 -- the event of a load, and of a store
 abbrev pub load_event : (addr value : ℕ) → Reach → Event
@@ -94,7 +94,7 @@ pub record IsReachable (words : List ℕ) (frames : List (List ℕ)) (held : Har
   pub place : p < length words
   pub frame : p < length frames
   pub word : IsPageWord (slice_index words p)
-  pub absent : HasWalked held.walked false → found p held.rings.hosts ≡ None
+  pub absent : HasUnusedWalk held.walked false → found p held.rings.hosts ≡ None
 
 -- a load that a hart made
 pub record IsLoaded (words : List ℕ) (frames : List (List ℕ)) (held : HartValue) (addr : ℕ) (rings : HartRings) (event : Event) : Type 0 where

@@ -4,7 +4,7 @@ ghost use Rattle.std.specs.Prelude.{◌≡◌, ◌<◌, ◌↔◌, ◌^◌, IsTr
 ghost use Rattle.cove_base.specs.PageWords.{IsHostWord, IsPageWord};
 ghost use Rattle.cove_base.specs.Rings.{found};
 ghost use Rattle.cove_base.specs.Unchanged.{Unchanged};
-ghost use Rattle.cove_core.specs.Reached.{CanDo, HasWalked, IsAnswered, IsDone, IsLoaded, IsReachable, IsStored, ComesTo, frames_by, load_event, rings_forgotten, store_event};
+ghost use Rattle.cove_core.specs.Reached.{CanDo, HasUnusedWalk, IsAnswered, IsDone, IsLoaded, IsReachable, IsStored, ComesTo, frames_by, load_event, rings_forgotten, store_event};
 ghost use Rattle.cove_core.specs.CanCall.{CanCall};
 ghost use Rattle.cove_hart.specs.HartStates.{hart_value};
 ghost use Rattle.cove_mem.specs.Frames.{frame, with_word};
@@ -101,7 +101,7 @@ fn look_at<W: Words>(w: &mut W, hart: &mut HartState, page: Page) -> Reach
     requires place { page.0 < length (W.words w.old) }
     requires limit { page.0 < 2 ^ 16 }
     requires word { IsPageWord (slice_index (W.words w.old) page.0) }
-    requires absent { HasWalked hart.old.walked false → found page.0 hart.old.rings.hosts ≡ None }
+    requires absent { HasUnusedWalk hart.old.walked false → found page.0 hart.old.rings.hosts ≡ None }
     ensures reaches { ComesTo (W.words w.old) (hart_value hart.old) page.0 hart.new.rings result }
     ensures hart { hart.new ≡ record hart.old { rings = hart.new.rings } }
     ensures unchanged { Unchanged W.words W.clean W.guard w.old w.new }

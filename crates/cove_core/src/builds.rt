@@ -2,7 +2,7 @@
 
 ghost use Rattle.std.specs.Prelude.{◌≡◌, IfOk, replicate};
 ghost use Rattle.cove_base.specs.Places.{all_words};
-ghost use Rattle.cove_core.specs.Plays.{IsFresh};
+ghost use Rattle.cove_core.specs.Plays.{IsUnplayed};
 ghost use Rattle.cove_tvm.specs.GroundLaws.{IsNewGround};
 
 use crate::fills::opening_memory;
@@ -16,7 +16,7 @@ use std::alloc::Global;
 
 /// Takes all memory of a run of a script, for as many entries as a history may have.
 pub fn build(alloc: Global, script: &Script) -> Result<Built, NoMemory>
-    ensures fresh { IfOk result (λ built. IsFresh script.now built) }
+    ensures fresh { IfOk result (λ built. IsUnplayed script.now built) }
     ensures zeros { IfOk result (λ built. built.words ≡ replicate (all_words script.now.pages script.now.harts) 0) }
 {
     within_limits(script);

@@ -12,7 +12,9 @@
 mod accesses;
 mod builds;
 mod calls;
+mod examples;
 mod fills;
+mod laws;
 mod monitors;
 mod plays;
 mod rules;
@@ -22,6 +24,8 @@ mod walks;
 
 pub use builds::build;
 pub use calls::call;
+pub use examples::{worked_accesses, worked_endings, worked_turns};
+pub use laws::{entries_that_are_made, histories_that_are_kept};
 pub use monitors::{Mon, Progress};
 pub use plays::{Built, play};
 pub use rules::kept_law;

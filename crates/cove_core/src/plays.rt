@@ -3,7 +3,7 @@
 ghost use Rattle.std.specs.Prelude.{◌≡◌, ◌+◌, ◌<◌, ◌≤◌, ◌^◌, ◌↔◌, IsTrue, false, fold, length, true};
 ghost use Rattle.cove_base.specs.declared.limits.TheConstants.{ENTRY_LIMIT};
 ghost use Rattle.cove_core.specs.Kept.{IsKept};
-ghost use Rattle.cove_core.specs.Plays.{AreReady, AreRounds, Changes, GoesOn, IsAt, IsFresh, IsTurned, Stays, named_play};
+ghost use Rattle.cove_core.specs.Plays.{AreReady, AreRounds, Changes, GoesOn, IsAt, IsUnplayed, IsTurned, Stays, named_play};
 ghost use Rattle.cove_hart.specs.HartStates.{hart_value};
 ghost use Rattle.cove_model.specs.Fits.{Fits};
 ghost use Rattle.cove_model.specs.Played.{IsOver, Play, enough, played, round, rounds, turn};
@@ -28,7 +28,7 @@ pub struct Built {
 /// Plays a script: the turns that it names, and then a turn of each hart again and again, until a round changes
 /// nothing. Says whether no line is left.
 pub fn play(built: &mut Built, script: &Script) -> bool
-    requires { IsFresh script.now built.old }
+    requires { IsUnplayed script.now built.old }
     ensures history { built.new.mon.history ≡ played ENTRY_LIMIT script.now }
     ensures whole { IsTrue result ↔ IsOver script.now (played ENTRY_LIMIT script.now) }
     ensures rounds { AreRounds script.now (named_play script.now) built.new.rounds_made }

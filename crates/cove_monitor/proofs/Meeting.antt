@@ -11,7 +11,7 @@ use Rattle.cove_core.specs.declared.monitors.Mon.{Mon}
 use Rattle.cove_model.proofs.Beginning.{legal_begins}
 use Rattle.cove_model.proofs.Histories.{legal_quiet}
 use Rattle.cove_monitor.proofs.Joining.{joined}
-use Rattle.cove_monitor.specs.Closing.{HasMet, IsRight}
+use Rattle.cove_monitor.specs.Closing.{HasMet, IsHistoryOf}
 use Rattle.cove_monitor.specs.Seats.{IsKeeper, IsSeat}
 
 -- a hart whose pass was joined with the monitor's
@@ -30,9 +30,9 @@ keeper_same table mon keeper hart held after kept table_is parts is =
     ∙ ap (λ v. record keeper { part = v }) (sym kept.alone)
 
 -- what the monitor's part tells of the history at the end
-pub right_by : (script : ScriptValue) (table : TableId) (mon : Mon) (keeper : PassValue) → IsKeeper table mon keeper → IsMonitor script (monitor_of keeper.part) → IsRight script mon.history
+pub right_by : (script : ScriptValue) (table : TableId) (mon : Mon) (keeper : PassValue) → IsKeeper table mon keeper → IsMonitor script (monitor_of keeper.part) → IsHistoryOf script mon.history
 right_by script table mon keeper kept monitor =
-    subst (IsRight script) (sym kept.history)
+    subst (IsHistoryOf script) (sym kept.history)
     (record {
       legal = monitor.monitored.legal;
       begins = legal_begins script (monitor_of keeper.part).history monitor.monitored.legal;

@@ -7,7 +7,7 @@ use Rattle.cove_board.specs.Parts.{hart_alone, hart_of, new_part}
 use Rattle.cove_board.specs.Passes.{AreDealt, PassValue}
 use Rattle.cove_hart.specs.HartStates.{hart_value}
 use Rattle.cove_hart.specs.declared.states.HartState.{HartState}
-use Rattle.cove_monitor.specs.Closing.{AreFitting, IsFitting, IsFresh}
+use Rattle.cove_monitor.specs.Closing.{AreFitting, IsFitting, IsNewSeat}
 use Rattle.cove_monitor.specs.Seats.{SeatValue}
 
 -- ---- the harts of a board as it opens
@@ -26,7 +26,7 @@ pub record AreSeated (script : ScriptValue) (table : TableId) (states : List Har
   pub count : length states + length harts ≡ script.harts
   pub states_fit : AreFitting script (length states) states
   pub passes_dealt : AreDealt script table (length states) passes
-  pub fresh : (k : ℕ) → k < length harts → IfSome (slice_get harts k) (IsFresh table script (length states + k))
+  pub fresh : (k : ℕ) → k < length harts → IfSome (slice_get harts k) (IsNewSeat table script (length states + k))
 
 module _ (script : ScriptValue) (table : TableId) (rest : List HartState) (state : HartState) (left : List PassValue) (pass : PassValue) (fits : AreFitting script (length (rest ++ state ∷ [])) (rest ++ state ∷ [])) (dealt : AreDealt script table (length (rest ++ state ∷ [])) (left ++ pass ∷ [])) where
   same_length : length left ≡ length rest
@@ -41,7 +41,7 @@ module _ (script : ScriptValue) (table : TableId) (rest : List HartState) (state
       (subst (λ o. IfSome o (λ (v : PassValue). v ≡ record { table = table; part = hart_alone (new_part script (length left)) })) (last_at left pass)
       (dealt.1 (length left) (let b = length_push rest state in let s = same_length in omega arith)))
 
-  last_seat : IsFresh table script (length rest) (record { held = hart_value state; pass = pass; full = false })
+  last_seat : IsNewSeat table script (length rest) (record { held = hart_value state; pass = pass; full = false })
   last_seat = record {
     is = record {
       of = record {
@@ -55,7 +55,7 @@ module _ (script : ScriptValue) (table : TableId) (rest : List HartState) (state
     unfilled = refl;
   }
 
-  pub seated_more : (harts : List SeatValue) → length (rest ++ state ∷ []) + length harts ≡ script.harts → ((k : ℕ) → k < length harts → IfSome (slice_get harts k) (IsFresh table script (length (rest ++ state ∷ []) + k))) → AreSeated script table rest left (record { held = hart_value state; pass = pass; full = false } ∷ harts)
+  pub seated_more : (harts : List SeatValue) → length (rest ++ state ∷ []) + length harts ≡ script.harts → ((k : ℕ) → k < length harts → IfSome (slice_get harts k) (IsNewSeat table script (length (rest ++ state ∷ []) + k))) → AreSeated script table rest left (record { held = hart_value state; pass = pass; full = false } ∷ harts)
   seated_more harts count fresh = record {
     count = let b = length_push rest state in omega arith;
     states_fit = (refl, λ k lt. subst (λ o. IfSome o (IsFitting script k)) (front_at rest state k lt) (fits.1 k (let b = length_push rest state in omega arith)));
@@ -69,9 +69,9 @@ module _ (script : ScriptValue) (table : TableId) (rest : List HartState) (state
     fresh = first;
   }
     where
-      first : (k : ℕ) → k < length (record { held = hart_value state; pass = pass; full = false } ∷ harts) → IfSome (slice_get (record { held = hart_value state; pass = pass; full = false } ∷ harts) k) (IsFresh table script (length rest + k))
-      first zero lt = subst (λ n. IsFresh table script n (record { held = hart_value state; pass = pass; full = false })) (sym (add-zero (length rest))) last_seat
+      first : (k : ℕ) → k < length (record { held = hart_value state; pass = pass; full = false } ∷ harts) → IfSome (slice_get (record { held = hart_value state; pass = pass; full = false } ∷ harts) k) (IsNewSeat table script (length rest + k))
+      first zero lt = subst (λ n. IsNewSeat table script n (record { held = hart_value state; pass = pass; full = false })) (sym (add-zero (length rest))) last_seat
       first (suc k) lt =
           let b = length_push rest state in
           let at : length (rest ++ state ∷ []) + k ≡ length rest + suc k = omega arith in
-          subst (λ n. IfSome (slice_get harts k) (IsFresh table script n)) at (fresh k (omega arith))
+          subst (λ n. IfSome (slice_get harts k) (IsNewSeat table script n)) at (fresh k (omega arith))

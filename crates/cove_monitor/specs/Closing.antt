@@ -11,7 +11,7 @@ use Rattle.cove_model.specs.Cached.{IsCached, IsQuiet}
 use Rattle.cove_model.specs.Fits.{Fits}
 use Rattle.cove_model.specs.Histories.{Begins, Legal, after, own}
 use Rattle.cove_model.specs.States.{ended_by}
-use Rattle.cove_monitor.specs.Seats.{IsOf, SeatValue, part_of}
+use Rattle.cove_monitor.specs.Seats.{IsHartOf, SeatValue, part_of}
 
 -- A hart has met a history: its entries in it are those that it made, the history begins with the one that it saw last,
 -- and as many of its lines are ended as it ended.
@@ -22,7 +22,7 @@ pub record HasMet (script : ScriptValue) (history : List Entry) (held : HartValu
 
 -- this hart is the one of this number, of this monitor
 pub record IsNumber (table : TableId) (script : ScriptValue) (number : ℕ) (seat : SeatValue) : Type 0 where
-  pub of : IsOf table script seat
+  pub of : IsHartOf table script seat
   pub number_is : seat.held.hart ≡ number
 
 -- the harts of a monitor, in order
@@ -37,23 +37,23 @@ HaveMet script history seats =
 
 -- a history of a script: legal, with each hart's lines once and in order, with hits and walks as the harts' TLBs have
 -- them, and in which no page changes hands while a TLB names it
-pub record IsRight (script : ScriptValue) (history : List Entry) : Type 0 where
+pub record IsHistoryOf (script : ScriptValue) (history : List Entry) : Type 0 where
   pub legal : Legal script history
   pub begins : Begins script history
   pub cached : IsCached script history
   pub quiet : IsQuiet script history
 
 -- a hart that has made no entry, seen none, made no walk and did not come to a full history
-pub record IsFresh (table : TableId) (script : ScriptValue) (number : ℕ) (seat : SeatValue) : Type 0 where
+pub record IsNewSeat (table : TableId) (script : ScriptValue) (number : ℕ) (seat : SeatValue) : Type 0 where
   pub is : IsNumber table script number seat
   pub part : part_of seat ≡ new_part script number
   pub unwalked : seat.held.walked ≡ None
   pub unfilled : seat.full ≡ false
 
 -- the harts of a monitor as it opens, in order
-abbrev pub AreFresh : TableId → ScriptValue → List SeatValue → Type 0
-AreFresh table script seats =
-    (length seats ≡ script.harts) × ((k : ℕ) → k < script.harts → IfSome (slice_get seats k) (IsFresh table script k))
+abbrev pub AreNewSeats : TableId → ScriptValue → List SeatValue → Type 0
+AreNewSeats table script seats =
+    (length seats ≡ script.harts) × ((k : ℕ) → k < script.harts → IfSome (slice_get seats k) (IsNewSeat table script k))
 
 -- a hart of this number that fits the empty history, and has made no walk
 pub record IsFitting (script : ScriptValue) (number : ℕ) (hart : HartState) : Type 0 where

@@ -7,9 +7,12 @@ use Rattle.cove_base.specs.Scripts.{ScriptValue}
 use Rattle.cove_base.specs.declared.events.Entry.{Entry}
 use Rattle.cove_base.specs.declared.events.Event.{Event}
 use Rattle.cove_base.specs.declared.events.Event.TheVariants.{LoadFault, StoreFault}
+use Rattle.cove_base.specs.declared.limits.TheConstants.{ENTRY_LIMIT}
 use Rattle.cove_base.specs.declared.numbers.Page.{Page}
 use Rattle.cove_base.specs.declared.walks.Target.TheVariants.{Host}
 use Rattle.cove_board.specs.Parts.{HartPart, walked_part}
+use Rattle.cove_core.specs.Stepped.{IfNoEntry, IsFirstBehind, IsLimit, OnAhead, OnDid}
+use Rattle.cove_core.specs.declared.steps.Stepped.{Stepped}
 use Rattle.cove_hart.specs.Needs.{next_need}
 use Rattle.cove_hart.specs.declared.needs.Need.TheVariants.{Walk}
 use Rattle.cove_model.specs.States.{page_of}
@@ -30,7 +33,7 @@ NamesNone rings event = Unit {0}
 
 -- A hart made one entry, and no other, for which it used up its walk or dropped it. The history that it saw begins with
 -- the one that it had seen, and ends with the entry, which stands at this place.
-pub record HasEntered (held : HartValue) (before now : HartPart) (place : ℕ) : Type 0 where
+pub record HasMadeEntry (held : HartValue) (before now : HartPart) (place : ℕ) : Type 0 where
   pub entry : Entry
   pub between : List Entry
   pub mine : now.mine ≡ before.mine ++ entry ∷ []
@@ -43,3 +46,12 @@ pub record HasEntered (held : HartValue) (before now : HartPart) (place : ℕ) :
 pub record HasLooked (before now : HartPart) : Type 0 where
   pub mine : now.mine ≡ before.mine
   pub seen : (more : List Entry) × (now.seen ≡ before.seen ++ more)
+
+-- What an event of a hart came to: the hart made an entry; or it made none, and then it holds what it held and has seen a
+-- history that is full, or in which another hart is behind.
+pub record HasStepped (script : ScriptValue) (stepped : Stepped) (held left : HartValue) (before now : HartPart) : Type 0 where
+  pub entered : OnDid stepped (HasMadeEntry held before now)
+  pub looked : IfNoEntry stepped (HasLooked before now × (left ≡ held))
+  pub limit : IsLimit stepped → length now.seen ≡ ENTRY_LIMIT
+  pub ahead : OnAhead stepped (λ other. IsFirstBehind script now.seen left other.0)
+  pub same_hart : left.hart ≡ held.hart

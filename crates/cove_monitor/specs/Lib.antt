@@ -1,3 +1,4 @@
 pub mod Closing
 pub mod Events
+pub mod Examples
 pub mod Seats

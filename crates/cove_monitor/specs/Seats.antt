@@ -69,6 +69,6 @@ HasKeeper table mon None = ⊥
 HasKeeper table mon (Some pass) = IsKeeper table mon pass
 
 -- a hart is one of the monitor of this table and script
-pub record IsOf (table : TableId) (script : ScriptValue) (seat : SeatValue) : Type 0 where
+pub record IsHartOf (table : TableId) (script : ScriptValue) (seat : SeatValue) : Type 0 where
   pub table_is : seat.pass.table ≡ table
   pub script_is : (part_of seat).script ≡ script

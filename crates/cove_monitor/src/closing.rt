@@ -4,8 +4,8 @@ ghost use Rattle.std.specs.Prelude.{◌≡◌};
 ghost use Rattle.cove_board.specs.Parts.{hart_of};
 ghost use Rattle.cove_board.specs.Passes.{IsHartPass};
 ghost use Rattle.cove_hart.specs.HartStates.{hart_value};
-ghost use Rattle.cove_monitor.specs.Closing.{AreSeats, HasMet, HaveMet, IsRight};
-ghost use Rattle.cove_monitor.specs.Seats.{IsKeeper, IsOf, IsSeat, part_of};
+ghost use Rattle.cove_monitor.specs.Closing.{AreSeats, HasMet, HaveMet, IsHistoryOf};
+ghost use Rattle.cove_monitor.specs.Seats.{IsKeeper, IsHartOf, IsSeat, part_of};
 
 use crate::harts::Hart;
 use crate::monitors::{Kept, Monitor};
@@ -45,7 +45,7 @@ impl<B: Room> Monitor<B> {
     /// are those that the hart made.
     pub fn close(self, harts: Vec<Hart>) -> Closed
         requires { AreSeats B.table self harts.items }
-        ensures right { IsRight self result }
+        ensures right { IsHistoryOf self result }
         ensures met { HaveMet self result harts.items }
     {
         let Monitor { board, kept } = self;

@@ -3,17 +3,16 @@
 ghost use Rattle.std.specs.Prelude.{◌≡◌, ◌↔◌, ◌+◌, IfOk, IsTrue, false, length};
 ghost use Rattle.std.specs.Option.{option_map};
 ghost use Rattle.cove_base.specs.HartLines.{next_line};
-ghost use Rattle.cove_base.specs.declared.limits.TheConstants.{ENTRY_LIMIT};
 ghost use Rattle.cove_base.specs.declared.walks.Target.{Target};
 ghost use Rattle.cove_board.specs.Passes.{AreDealt};
 ghost use Rattle.cove_core.specs.Reached.{IsPrepared};
-ghost use Rattle.cove_core.specs.Stepped.{IsFirstBehind, IsLimit, IfNoEntry, OnAhead, OnDid};
+ghost use Rattle.cove_core.specs.Stepped.{IsLimit};
 ghost use Rattle.cove_hart.specs.HartStates.{hart_value};
 ghost use Rattle.cove_hart.specs.Needs.{next_need};
 ghost use Rattle.cove_hart.specs.declared.needs.Need.TheVariants.{Event, Walk};
-ghost use Rattle.cove_monitor.specs.Closing.{AreFitting, AreFresh, HasMet};
-ghost use Rattle.cove_monitor.specs.Events.{HasEntered, HasLooked, HasWalked};
-ghost use Rattle.cove_monitor.specs.Seats.{IsFull, IsKeeper, IsOf, IsSeat, part_of};
+ghost use Rattle.cove_monitor.specs.Closing.{AreFitting, AreNewSeats, HasMet};
+ghost use Rattle.cove_monitor.specs.Events.{HasStepped, HasWalked};
+ghost use Rattle.cove_monitor.specs.Seats.{IsFull, IsKeeper, IsHartOf, IsSeat, part_of};
 
 use crate::closing::held_meeting;
 use crate::events::held_event;
@@ -104,9 +103,9 @@ impl Hart {
         steps: &mut Steps<L>,
     )
         requires script { board.now.script ≡ script.now }
-        requires hart { IsOf board.now.table script.now self.old }
+        requires hart { IsHartOf board.now.table script.now self.old }
         requires needed { (target : Target) × (next_need script.now self.old.held phase ≡ Walk target) }
-        ensures hart { IsOf board.now.table script.now self.new }
+        ensures hart { IsHartOf board.now.table script.now self.new }
         ensures walked { HasWalked script.now phase self.old.held self.new.held (part_of self.old) (part_of self.new) }
         ensures full { self.new.full ≡ self.old.full }
         ensures steps { steps.new ≡ steps.old + 1 }
@@ -127,17 +126,13 @@ impl Hart {
         keeper: Pass,
     ) -> (Stepped, Pass)
         requires script { board.now.script ≡ script.now }
-        requires hart { IsOf board.now.table script.now self.old }
+        requires hart { IsHartOf board.now.table script.now self.old }
         requires keeper { IsKeeper board.now.table mon.old keeper }
         requires prepared { IsPrepared script.now self.old.held }
-        ensures hart { IsOf board.now.table script.now self.new }
+        ensures hart { IsHartOf board.now.table script.now self.new }
         ensures keeper { IsKeeper board.now.table mon.new result.1 }
-        ensures entered { OnDid result.0 (HasEntered self.old.held (part_of self.old) (part_of self.new)) }
-        ensures looked { IfNoEntry result.0 (HasLooked (part_of self.old) (part_of self.new) × (self.new.held ≡ self.old.held)) }
-        ensures limit { IsLimit result.0 → length (part_of self.new).seen ≡ ENTRY_LIMIT }
+        ensures stepped { HasStepped script.now result.0 self.old.held self.new.held (part_of self.old) (part_of self.new) }
         ensures full { IsTrue self.new.full ↔ IsLimit result.0 }
-        ensures ahead { OnAhead result.0 (λ other. IsFirstBehind script.now (part_of self.new).seen self.new.held other.0) }
-        ensures same_hart { self.new.held.hart ≡ self.old.held.hart }
     {
         let Some(pass) = self.pass.take() else {
             unreachable!()
@@ -150,7 +145,7 @@ impl Hart {
 
     // Meets the hart, with the monitor's pass, as the monitor ends.
     pub(crate) fn meet(self, board: &Board, mon: &Mon, keeper: Pass) -> Pass
-        requires hart { IsOf board.now.table board.now.script self }
+        requires hart { IsHartOf board.now.table board.now.script self }
         requires keeper { IsKeeper board.now.table mon.now keeper }
         ensures same { result ≡ keeper }
         ensures met { HasMet board.now.script mon.now.history self.held (part_of self) }
@@ -176,7 +171,7 @@ pub(crate) fn seat_all(
     requires states { AreFitting script.now (length passes) states.items }
     requires passes { AreDealt script.now board.now.table (length passes) passes }
     requires harts { length passes ≡ script.now.harts }
-    ensures { IfOk result (λ harts. AreFresh board.now.table script.now harts.items) }
+    ensures { IfOk result (λ harts. AreNewSeats board.now.table script.now harts.items) }
 {
     let mut harts = Vec::new(alloc);
     while let Some(state) = states.pop() {

@@ -8,6 +8,7 @@
 mod closing;
 mod events;
 mod harts;
+mod laws;
 mod limits;
 mod monitors;
 mod opened;
@@ -16,6 +17,10 @@ mod walks;
 
 pub use closing::Closed;
 pub use harts::Hart;
+pub use laws::{
+    entries_of_harts, events_of_harts, histories_of_scripts, looks_of_harts, meetings_of_harts,
+    walks_of_harts, worked_misses, worked_seats,
+};
 pub use monitors::Monitor;
 pub use opened::{Opened, Started};
 pub use rooms::Room;

@@ -1,14 +1,13 @@
 //! The monitor that threads share.
 
-ghost use Rattle.std.specs.Prelude.{◌≡◌, ◌↔◌, ◌+◌, IsTrue, length};
-ghost use Rattle.cove_base.specs.declared.limits.TheConstants.{ENTRY_LIMIT};
+ghost use Rattle.std.specs.Prelude.{◌≡◌, ◌↔◌, ◌+◌, IsTrue};
 ghost use Rattle.cove_base.specs.declared.walks.Target.{Target};
 ghost use Rattle.cove_core.specs.Reached.{IsPrepared};
-ghost use Rattle.cove_core.specs.Stepped.{IsFirstBehind, IsLimit, IfNoEntry, OnAhead, OnDid};
+ghost use Rattle.cove_core.specs.Stepped.{IsLimit};
 ghost use Rattle.cove_hart.specs.Needs.{next_need};
 ghost use Rattle.cove_hart.specs.declared.needs.Need.TheVariants.{Walk};
-ghost use Rattle.cove_monitor.specs.Events.{HasEntered, HasLooked, HasWalked};
-ghost use Rattle.cove_monitor.specs.Seats.{IsKeeper, IsOf, part_of};
+ghost use Rattle.cove_monitor.specs.Events.{HasStepped, HasWalked};
+ghost use Rattle.cove_monitor.specs.Seats.{IsKeeper, IsHartOf, part_of};
 
 use crate::harts::Hart;
 use crate::rooms::Room;
@@ -56,15 +55,11 @@ impl<B: Room> Kept<B> {
     pub(crate) fn event(&mut self, board: &Board, script: &Script, hart: &mut Hart) -> Stepped
         requires board { board.now.table ≡ B.table }
         requires script { board.now.script ≡ script.now }
-        requires hart { IsOf B.table script.now hart.old }
+        requires hart { IsHartOf B.table script.now hart.old }
         requires prepared { IsPrepared script.now hart.old.held }
-        ensures hart { IsOf B.table script.now hart.new }
-        ensures entered { OnDid result (HasEntered hart.old.held (part_of hart.old) (part_of hart.new)) }
-        ensures looked { IfNoEntry result (HasLooked (part_of hart.old) (part_of hart.new) × (hart.new.held ≡ hart.old.held)) }
-        ensures limit { IsLimit result → length (part_of hart.new).seen ≡ ENTRY_LIMIT }
+        ensures hart { IsHartOf B.table script.now hart.new }
+        ensures stepped { HasStepped script.now result hart.old.held hart.new.held (part_of hart.old) (part_of hart.new) }
         ensures full { IsTrue hart.new.full ↔ IsLimit result }
-        ensures ahead { OnAhead result (λ other. IsFirstBehind script.now (part_of hart.new).seen hart.new.held other.0) }
-        ensures same_hart { hart.new.held.hart ≡ hart.old.held.hart }
     {
         let Some(keeper) = self.pass.take() else {
             unreachable!()
@@ -104,9 +99,9 @@ impl<B: Room> Monitor<B> {
         steps: &mut Steps<L>,
     )
         requires script { self.now ≡ script.now }
-        requires hart { IsOf B.table script.now hart.old }
+        requires hart { IsHartOf B.table script.now hart.old }
         requires needed { (target : Target) × (next_need script.now hart.old.held phase ≡ Walk target) }
-        ensures hart { IsOf B.table script.now hart.new }
+        ensures hart { IsHartOf B.table script.now hart.new }
         ensures walked { HasWalked script.now phase hart.old.held hart.new.held (part_of hart.old) (part_of hart.new) }
         ensures full { hart.new.full ≡ hart.old.full }
         ensures steps { steps.new ≡ steps.old + 1 }
@@ -118,15 +113,11 @@ impl<B: Room> Monitor<B> {
     /// another hart has a line of an earlier phase left. The hart has seen the history then.
     pub fn event<R: Wait>(&self, rt: &R, script: &Script, hart: &mut Hart) -> Stepped
         requires script { self.now ≡ script.now }
-        requires hart { IsOf B.table script.now hart.old }
+        requires hart { IsHartOf B.table script.now hart.old }
         requires prepared { IsPrepared script.now hart.old.held }
-        ensures hart { IsOf B.table script.now hart.new }
-        ensures entered { OnDid result (HasEntered hart.old.held (part_of hart.old) (part_of hart.new)) }
-        ensures looked { IfNoEntry result (HasLooked (part_of hart.old) (part_of hart.new) × (hart.new.held ≡ hart.old.held)) }
-        ensures limit { IsLimit result → length (part_of hart.new).seen ≡ ENTRY_LIMIT }
+        ensures hart { IsHartOf B.table script.now hart.new }
+        ensures stepped { HasStepped script.now result hart.old.held hart.new.held (part_of hart.old) (part_of hart.new) }
         ensures full { IsTrue hart.new.full ↔ IsLimit result }
-        ensures ahead { OnAhead result (λ other. IsFirstBehind script.now (part_of hart.new).seen hart.new.held other.0) }
-        ensures same_hart { hart.new.held.hart ≡ hart.old.held.hart }
     {
         let mut kept = self.kept.lock(rt);
         kept.event(&self.board, script, hart)

@@ -1,7 +1,7 @@
 //! The start of a monitor.
 
 ghost use Rattle.std.specs.Prelude.{◌≡◌, IfOk};
-ghost use Rattle.cove_monitor.specs.Closing.{AreFresh};
+ghost use Rattle.cove_monitor.specs.Closing.{AreNewSeats};
 ghost use Rattle.cove_monitor.specs.Seats.{IsKeeper};
 
 use crate::harts::{Hart, seat_all};
@@ -44,7 +44,7 @@ impl Opened {
     /// Takes all memory of a run of a script on threads.
     pub fn start(alloc: Global, script: &Script) -> Result<Started, NoMemory>
         ensures script { IfOk result (λ started. started.monitor.script ≡ script.now) }
-        ensures harts { IfOk result (λ started. AreFresh started.monitor.table script.now started.harts.items) }
+        ensures harts { IfOk result (λ started. AreNewSeats started.monitor.table script.now started.harts.items) }
     {
         let Built {
             mon,

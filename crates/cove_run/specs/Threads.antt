@@ -42,13 +42,13 @@ abbrev pub line_of_0 : Line → ScriptLine
 line_of_0 line = record { hart = record { 0 = 0 }; phase = 0; line = line }
 
 -- what was read is refused by this line: it is no script, or has a line that harts on threads do not make
-abbrev pub Refuses : Result ScriptValue ScriptFault → (text : List ℕ) → Type 0
-Refuses (Ok script) text = (runs_on_threads script ≡ false) × (text ≡ not_built_line)
-Refuses (Err fault) text = text ≡ refusal_line fault
+abbrev pub IsRefusedBy : Result ScriptValue ScriptFault → (text : List ℕ) → Type 0
+IsRefusedBy (Ok script) text = (runs_on_threads script ≡ false) × (text ≡ not_built_line)
+IsRefusedBy (Err fault) text = text ≡ refusal_line fault
 
 -- this text is printed of what was read, and `closed` then holds the history that is printed, if one is
 abbrev pub PrintsClosed : Result ScriptValue ScriptFault → (closed : Option (List Entry)) (text : List ℕ) → Type 0
-PrintsClosed found None text = Refuses found text
+PrintsClosed found None text = IsRefusedBy found text
 PrintsClosed (Ok script) (Some history) text =
     (runs_on_threads script ≡ true) × IsHistoryOf script history × PrintsHistory script history text
 PrintsClosed (Err fault) (Some history) text = ⊥

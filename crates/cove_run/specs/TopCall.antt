@@ -11,7 +11,7 @@ use Rattle.cove_journal.specs.Journals.{journal_history}
 use Rattle.cove_model.specs.Grammar.{script_of, fault_at}
 use Rattle.cove_model.specs.Played.{IsOver, played}
 use Rattle.cove_model.specs.Reports.{report, report_limit}
-use Rattle.cove_monitor.specs.Closing.{IsRight}
+pub use Rattle.cove_monitor.specs.Closing.{IsHistoryOf}
 use Rattle.cove_run.specs.Printing.{refusal_line}
 
 -- these bytes were read, to their end; a script has no more
@@ -29,11 +29,6 @@ Reads old new found =
 -- the history that a script plays
 abbrev pub history_of : ScriptValue → List Entry
 history_of script = played ENTRY_LIMIT script
-
--- a history of a script: legal, with each hart's lines once and in order, with hits and walks as the harts' TLBs have
--- them, and in which no page changes hands while a TLB names it
-abbrev pub IsHistoryOf : ScriptValue → List Entry → Type 0
-IsHistoryOf script history = IsRight script history
 
 -- the journal of a history reads as that history, and tells whether every line is ended or the limit came first
 abbrev pub IsReadBack : List Entry → Type 0

@@ -19,6 +19,6 @@ mod workers;
 
 pub use gates::{Gate, Place};
 pub use journals::printed_journals_are_read_back;
-pub use laws::{worked_texts, worked_threads};
+pub use laws::{worked_commands, worked_endings, worked_journals, worked_texts, worked_threads};
 pub use threads::{says_run, tsm_threads};
 pub use top::{USAGE, tsm_alone};

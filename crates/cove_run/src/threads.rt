@@ -11,7 +11,7 @@ ghost use Rattle.cove_model.specs.Histories.{Follows};
 ghost use Rattle.cove_model.specs.Played.{IsOver};
 ghost use Rattle.cove_model.specs.Reports.{report, report_limit};
 ghost use Rattle.cove_monitor.specs.Closing.{AreSeats};
-ghost use Rattle.cove_run.specs.Threads.{PrintsClosed, Refuses, is_threaded, is_threaded_call, runs_on_threads, says_run};
+ghost use Rattle.cove_run.specs.Threads.{PrintsClosed, IsRefusedBy, is_threaded, is_threaded_call, runs_on_threads, says_run};
 ghost use Rattle.cove_run.specs.TopCall.{IsHistoryOf, IsReadBack, Reads};
 
 use crate::endings::{print_history, refuse_fault, refuse_not_built};
@@ -62,7 +62,7 @@ pub fn tsm_threads<R: Threads + Wait + Sync, S: Source, K: Sink, G: Gate + Sync>
     // What is no script is refused by one line, which names its first fault; a script with a line that harts on threads
     // do not make yet is refused as not built.
     ensures refused { result ≡ 3 → (found : _) × ((text : List ℕ) × Reads (S.left source.old) (S.left source.new) found
-        × Refuses found text × Appends (K.taken sink.old) (K.taken sink.new) text) }
+        × IsRefusedBy found text × Appends (K.taken sink.old) (K.taken sink.new) text) }
 
     // Where no history was printed, none is in `closed`.
     ensures not_closed { result ≢ 0 → result ≢ 4 → result ≢ 6 → closed.new ≡ None }
@@ -133,7 +133,7 @@ fn run<R: Threads + Wait + Sync, K: Sink, G: Gate + Sync>(
         × (closed.new ≡ Some history) × Appends (K.taken sink.old) (K.taken sink.new) (report_limit history)
         × IsHistoryOf script.now history × (length history ≡ ENTRY_LIMIT) × (IsOver script.now history → ⊥)
         × IsReadBack history }
-    ensures refused { result ≡ 3 → (text : List ℕ) × Refuses (Ok script.now) text
+    ensures refused { result ≡ 3 → (text : List ℕ) × IsRefusedBy (Ok script.now) text
         × Appends (K.taken sink.old) (K.taken sink.new) text }
     ensures not_closed { result ≢ 0 → result ≢ 4 → result ≢ 6 → closed.new ≡ None }
     ensures memory { result ≡ 1 → sink.new ≡ sink.old }

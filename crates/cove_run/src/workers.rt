@@ -2,7 +2,7 @@
 
 ghost use Rattle.std.specs.Prelude.{◌≡◌, ◌<◌, IsTrue, IsFalse, None};
 ghost use Rattle.cove_monitor.specs.Closing.{AreSeats, IsNumber};
-ghost use Rattle.cove_monitor.specs.Seats.{IsOf};
+ghost use Rattle.cove_monitor.specs.Seats.{IsHartOf};
 ghost use Rattle.cove_run.specs.Working.{AreAfter, AreIdle, ComesFirst, HasFull};
 
 use crate::gates::{Gate, Place};
@@ -114,8 +114,8 @@ fn work<B: Room, R: Wait, G: Gate>(
     phase: u32,
 )
     requires script { monitor.now ≡ script.now }
-    requires hart { IsOf B.table script.now hart.old }
-    ensures hart { IsOf B.table script.now hart.new }
+    requires hart { IsHartOf B.table script.now hart.old }
+    ensures hart { IsHartOf B.table script.now hart.new }
     ensures same_hart { hart.new.held.hart ≡ hart.old.held.hart }
 {
     take_steps::<B, Brand, R, G>(rt, monitor, script, gate, hart, phase, Blank::new(1));
@@ -135,8 +135,8 @@ fn take_steps<B: Room, L: Ledger, R: Wait, G: Gate>(
     requires parts { blank.parts ≡ L.parts }
     requires some { 0 < L.parts }
     requires script { monitor.now ≡ script.now }
-    requires hart { IsOf B.table script.now hart.old }
-    ensures hart { IsOf B.table script.now hart.new }
+    requires hart { IsHartOf B.table script.now hart.old }
+    ensures hart { IsHartOf B.table script.now hart.new }
     ensures same_hart { hart.new.held.hart ≡ hart.old.held.hart }
 {
     let mut steps = Steps::<L>::new(blank);
@@ -159,8 +159,8 @@ fn take_step<B: Room, L: Ledger, R: Wait, G: Gate>(
     steps: &mut Steps<L>,
 ) -> bool
     requires script { monitor.now ≡ script.now }
-    requires hart { IsOf B.table script.now hart.old }
-    ensures hart { IsOf B.table script.now hart.new }
+    requires hart { IsHartOf B.table script.now hart.old }
+    ensures hart { IsHartOf B.table script.now hart.new }
     ensures same_hart { hart.new.held.hart ≡ hart.old.held.hart }
 {
     match hart.next(script, phase) {

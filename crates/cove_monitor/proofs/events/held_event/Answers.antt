@@ -1,9 +1,8 @@
-use Rattle.std.proofs.Common.{◌≡◌, length, sym, ◌∙◌, ap, subst}
+use Rattle.std.proofs.Common.{◌≡◌, sym, ◌∙◌, ap, subst}
 use Rattle.cove_board.specs.Parts.{HartPart, hart_of, left_part, monitor_of}
 use Rattle.cove_board.specs.Passes.{PassValue}
-use Rattle.cove_core.specs.Stepped.{IsFirstBehind, IfNoEntry, OnAhead, OnDid}
 use Rattle.cove_hart.specs.HartStates.{hart_value}
-use Rattle.cove_monitor.specs.Events.{HasEntered, HasLooked}
+use Rattle.cove_monitor.specs.Events.{HasStepped}
 use Rattle.cove_monitor.proofs.Joining.{allows_lawful, counts_entries, held_joined}
 use Rattle.cove_monitor.proofs.Leaving.{keeper_again, left_by, seat_again}
 use Rattle.cove_monitor.proofs.events.held_event.Goals as goal
@@ -55,9 +54,5 @@ returns c =
       };
       seat = seat;
       keeper = keeper_again script board.table step.new.mon (hart_value step.new.hart) now known left.after keeper c.release-hart.ensures.monitor;
-      entered = subst (λ (x : HartPart). OnDid step.result (HasEntered held (hart_of c.args.hart.part) x)) (sym part_is) left.entered;
-      looked = subst (λ (x : HartPart). IfNoEntry step.result (HasLooked (hart_of c.args.hart.part) x × (step.new.hart ≡ c.args.state.now))) (sym part_is) left.looked;
-      limit = λ is. ap (λ (x : HartPart). length x.seen) part_is ∙ left.limit is;
-      ahead = subst (λ (x : HartPart). OnAhead step.result (λ other. IsFirstBehind script x.seen (hart_value step.new.hart) other.0)) (sym part_is) left.ahead;
-      same_hart = left.same_hart;
+      stepped = subst (HasStepped script step.result held (hart_value step.new.hart) (hart_of c.args.hart.part)) (sym part_is) left.leaves;
     }

@@ -3,7 +3,7 @@ use Rattle.cove_board.specs.Passes.{AreDealt, PassValue}
 use Rattle.cove_hart.specs.declared.states.HartState.{HartState}
 use Rattle.cove_monitor.proofs.Seating.{AreSeated, seated_more}
 use Rattle.cove_monitor.proofs.harts.seat_all.Goals as goal
-use Rattle.cove_monitor.specs.Closing.{AreFitting, IsFresh}
+use Rattle.cove_monitor.specs.Closing.{AreFitting, IsNewSeat}
 
 pub loop-state-preserved : goal.loop-state-preserved
 loop-state-preserved c =
@@ -21,7 +21,7 @@ loop-state-preserved c =
     subst (λ (ps : List PassValue). AreDealt script table (length (rest ++ state ∷ [])) ps) c.in-Some-pop.ensures.last
     (subst (λ (hs : List HartState). AreDealt script table (length hs) c.loop-state.passes) states_are known.passes) in
     let count = subst (λ (hs : List HartState). length hs + length harts ≡ script.harts) states_are known.count in
-    let fresh = subst (λ (hs : List HartState). (k : ℕ) → k < length harts → IfSome (slice_get harts k) (IsFresh table script (length hs + k))) states_are known.fresh in
+    let fresh = subst (λ (hs : List HartState). (k : ℕ) → k < length harts → IfSome (slice_get harts k) (IsNewSeat table script (length hs + k))) states_are known.fresh in
     let more = seated_more script table rest state left pass fits dealt harts count fresh in
     let items = c.in_ok-insert.ensures.items ∙ ap (λ seat. seat ∷ harts) c.new.ensures in
     let seated = subst (AreSeated script table rest left) (sym items) more in
