@@ -51,10 +51,9 @@ pub record IsRightly (script : ScriptValue) (H : List Entry) (h : ℕ) (line : L
 -- ---- loads
 
 frame_told : (S : State) (h : ℕ) (f : List ℕ) (o : Owner) → may_use h o ≡ true → FrameStands S f o → f ≡ words_of o
-frame_told S h f (Host words) may stands = stands
-frame_told S h f (Converting held waiting words) may stands = stands
 frame_told S h f Free may stands = absurd (false≢true may)
 frame_told S h f (Given tvm purpose) may stands = absurd (false≢true may)
+frame_told S h f _ may stands = stands
 
 -- a word that a hart may load is that of the frame
 word_told : (S : State) (frames : List (List ℕ)) (h addr : ℕ) → FramesStand frames S → page_of addr < length frames → may_use h (page_at S.pages (page_of addr)) ≡ true → get_or (frame frames (page_of addr)) (word_place addr) 0 ≡ word_at S addr
@@ -72,39 +71,30 @@ load_rightly script H h addr frames stands below rings r right = go r right
 
     go : (r : Reach) → IsReachedRightly script H h (page_of addr) rings r → IsRightly script H h (lines.Load addr) rings (load_event addr value r)
     go reach.Held right = record { takes = loads Hit right.may; reached = right.right; rings_are = right.rings_are }
-    go reach.Walked right = record { takes = loads Walk right.may; reached = right.right; rings_are = right.rings_are }
-    go reach.Fresh right = record { takes = loads Walk right.may; reached = right.right; rings_are = right.rings_are }
     go reach.Absent right = record { takes = inr (refl, right.may); reached = right.right; rings_are = right.rings_are }
+    go _ right = record { takes = loads Walk right.may; reached = right.right; rings_are = right.rings_are }
 
 pub load_done : (S : State) (h addr value : ℕ) (r : Reach) → host_done S h (load_event addr value r) ≡ S
 load_done S h addr value reach.Held = refl
-load_done S h addr value reach.Walked = refl
-load_done S h addr value reach.Fresh = refl
-load_done S h addr value reach.Absent = refl
+load_done S h addr value _ = refl
 
 pub load_told : (words : List ℕ) (rings : HartRings) (addr value : ℕ) (r : Reach) → IsToldBy words rings (page_of addr) r → IsTold words rings (host_touched (load_event addr value r))
 load_told words rings addr value reach.Held told = told
-load_told words rings addr value reach.Walked told = told
-load_told words rings addr value reach.Fresh told = told
-load_told words rings addr value reach.Absent told = told
+load_told words rings addr value _ told = told
 
 -- ---- stores
 
 pub store_rightly : (script : ScriptValue) (H : List Entry) (h addr value : ℕ) (rings : HartRings) (r : Reach) → IsReachedRightly script H h (page_of addr) rings r → IsRightly script H h (lines.Store addr value) rings (stored_event addr value r)
 store_rightly script H h addr value rings reach.Held right = record { takes = inl (Hit, refl, right.may); reached = right.right; rings_are = right.rings_are }
-store_rightly script H h addr value rings reach.Walked right = record { takes = inl (Walk, refl, right.may); reached = right.right; rings_are = right.rings_are }
-store_rightly script H h addr value rings reach.Fresh right = record { takes = inl (Walk, refl, right.may); reached = right.right; rings_are = right.rings_are }
 store_rightly script H h addr value rings reach.Absent right = record { takes = inr (refl, right.may); reached = right.right; rings_are = right.rings_are }
+store_rightly script H h addr value rings _ right = record { takes = inl (Walk, refl, right.may); reached = right.right; rings_are = right.rings_are }
 
 pub store_told : (words : List ℕ) (rings : HartRings) (addr value : ℕ) (r : Reach) → IsToldBy words rings (page_of addr) r → IsTold words rings (host_touched (stored_event addr value r))
 store_told words rings addr value reach.Held told = told
-store_told words rings addr value reach.Walked told = told
-store_told words rings addr value reach.Fresh told = told
-store_told words rings addr value reach.Absent told = told
+store_told words rings addr value _ told = told
 
 -- a stored word of a page is no matter of the shared words
 page_stored : (harts epoch : ℕ) (numbers : ℕ → ℕ) (maps word i v : ℕ) (o : Owner) → PageStands harts epoch numbers maps word o → PageStands harts epoch numbers maps word (word_stored i v o)
-page_stored harts epoch numbers maps word i v (Host words) stands = stands
 page_stored harts epoch numbers maps word i v (Converting held waiting words) stands = record {
   since = stands.since;
   is = stands.is;
@@ -113,14 +103,11 @@ page_stored harts epoch numbers maps word i v (Converting held waiting words) st
   waits = stands.waits;
   pending = stands.pending;
 }
-page_stored harts epoch numbers maps word i v Free stands = stands
-page_stored harts epoch numbers maps word i v (Given tvm purpose) stands = stands
+page_stored harts epoch numbers maps word i v _ stands = stands
 
 table_stored : (i v : ℕ) (o : Owner) → is_table (word_stored i v o) ≡ is_table o
-table_stored i v (Host words) = refl
-table_stored i v (Converting held waiting words) = refl
 table_stored i v Free = refl
-table_stored i v (Given tvm purpose) = refl
+table_stored i v _ = refl
 
 stand_stored : (pages harts : ℕ) (words : List ℕ) (S : State) (i v p : ℕ) → Stand pages harts words S → Stand pages harts words (record S { pages = change (word_stored i v) p 1 S.pages })
 stand_stored pages harts words S i v p old = record {
@@ -146,10 +133,9 @@ stand_stored pages harts words S i v p old = record {
 }
 
 frame_stored : (S : State) (h : ℕ) (f : List ℕ) (i v : ℕ) (o : Owner) → may_use h o ≡ true → FrameStands S f o → FrameStands S (set f i v) (word_stored i v o)
-frame_stored S h f i v (Host words) may stands = ap (λ x. set x i v) stands
-frame_stored S h f i v (Converting held waiting words) may stands = ap (λ x. set x i v) stands
 frame_stored S h f i v Free may stands = absurd (false≢true may)
 frame_stored S h f i v (Given tvm purpose) may stands = absurd (false≢true may)
+frame_stored S h f i v _ may stands = ap (λ x. set x i v) stands
 
 frames_stored : (frames : List (List ℕ)) (S : State) (h i v p : ℕ) → may_use h (page_at S.pages p) ≡ true → p < length frames → FramesStand frames S → FramesStand (with_word frames p i v) (record S { pages = change (word_stored i v) p 1 S.pages })
 frames_stored frames S h i v p may below old =
@@ -175,16 +161,12 @@ frames_stored frames S h i v p may below old =
     apart q ne = elim (cases_lt q p) [ inl less ↦ inl less | inr more ↦ inr (omega arith) ]
 
 pub store_stands : (pages harts : ℕ) (words : List ℕ) (S : State) (h addr value : ℕ) (r : Reach) → Stand pages harts words S → Stand pages harts words (host_done S h (stored_event addr value r))
-store_stands pages harts words S h addr value reach.Held old = stand_stored pages harts words S (word_place addr) value (page_of addr) old
-store_stands pages harts words S h addr value reach.Walked old = stand_stored pages harts words S (word_place addr) value (page_of addr) old
-store_stands pages harts words S h addr value reach.Fresh old = stand_stored pages harts words S (word_place addr) value (page_of addr) old
 store_stands pages harts words S h addr value reach.Absent old = old
+store_stands pages harts words S h addr value _ old = stand_stored pages harts words S (word_place addr) value (page_of addr) old
 
 pub store_frames : (frames : List (List ℕ)) (S : State) (h addr value : ℕ) (r : Reach) → MayReach S h (page_of addr) r → page_of addr < length frames → FramesStand frames S → FramesStand (frames_by r frames (with_word frames (page_of addr) (word_place addr) value)) (host_done S h (stored_event addr value r))
-store_frames frames S h addr value reach.Held may below old = frames_stored frames S h (word_place addr) value (page_of addr) may below old
-store_frames frames S h addr value reach.Walked may below old = frames_stored frames S h (word_place addr) value (page_of addr) may below old
-store_frames frames S h addr value reach.Fresh may below old = frames_stored frames S h (word_place addr) value (page_of addr) may below old
 store_frames frames S h addr value reach.Absent may below old = old
+store_frames frames S h addr value _ may below old = frames_stored frames S h (word_place addr) value (page_of addr) may below old
 
 -- ---- calls
 

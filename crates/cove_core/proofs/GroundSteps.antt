@@ -90,9 +90,7 @@ count_stands words G count S old =
 
 store_keeps : (S : State) (h addr value : ℕ) (r : Reach) → KeepsTvms S (host_done S h (stored_event addr value r))
 store_keeps S h addr value reach.Held = record { tvms = refl; made = refl; seats = refl; kicked = refl; key = refl; files = refl }
-store_keeps S h addr value reach.Walked = record { tvms = refl; made = refl; seats = refl; kicked = refl; key = refl; files = refl }
-store_keeps S h addr value reach.Fresh = record { tvms = refl; made = refl; seats = refl; kicked = refl; key = refl; files = refl }
-store_keeps S h addr value reach.Absent = record { tvms = refl; made = refl; seats = refl; kicked = refl; key = refl; files = refl }
+store_keeps S h addr value _ = record { tvms = refl; made = refl; seats = refl; kicked = refl; key = refl; files = refl }
 
 pub stored_stands : (words : List ℕ) (G : Ground) (S : State) (h addr value : ℕ) (r : Reach)
     → MayReach S h (page_of addr) r → page_of addr < length G.memory → Stands words G S
