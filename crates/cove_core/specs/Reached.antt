@@ -21,12 +21,13 @@ use Rattle.cove_base.specs.declared.walks.Noted.{Noted}
 use Rattle.cove_base.specs.declared.events.Walked.{Walked}
 use Rattle.cove_base.specs.declared.events.Walked.TheVariants as walks
 use Rattle.cove_core.specs.CanCall.{CanCall}
-use Rattle.cove_tvm.specs.Served.{IsServed}
+use Rattle.cove_tvm.specs.Called.{Called}
 use Rattle.cove_core.specs.declared.accesses.Reach.{Reach}
 use Rattle.cove_core.specs.declared.accesses.Reach.TheVariants as reach
 use Rattle.cove_hart.specs.Needs.{access_need}
 use Rattle.cove_hart.specs.declared.needs.Need.TheVariants as needs
 use Rattle.cove_mem.specs.Frames.{frame, with_word}
+use Rattle.cove_model.specs.Answers.{rule_of}
 use Rattle.cove_model.specs.States.{page_of, word_place}
 use Rattle.cove_base.specs.Statuses.{is_success}
 use Rattle.cove_tvm.specs.declared.ground.Ground.{Ground}
@@ -112,7 +113,7 @@ pub record IsStored (words : List ℕ) (before now : List (List ℕ)) (held : Ha
 -- a call that a hart made
 pub record IsAnswered (hart : ℕ) (call : HostCall) (old new : List ℕ) (G H : Ground) (rings left : HartRings) (event : Event) : Type 0 where
   pub reply : Reply
-  pub served : IsServed hart call old new G H reply
+  pub served : Called hart (λ S. rule_of S hart call) old new G H reply
   pub is : event ≡ events.Call call reply
   pub rings_are : left ≡ rings_left call (is_success reply.status) rings
 

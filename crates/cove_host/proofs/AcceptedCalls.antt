@@ -3,10 +3,9 @@ use Rattle.std.proofs.Common.{◌≡◌, ℕ, ◌+◌, ◌≤◌, List, get_or, 
 use Rattle.cove_base.proofs.StoreLemmas.{length-stored}
 use Rattle.cove_base.specs.Places.{count_word}
 use Rattle.cove_base.specs.Stores.{AllAllowed, stored}
-use Rattle.cove_base.specs.declared.calls.HostCall.{HostCall}
 use Rattle.cove_base.specs.declared.statuses.Status.TheVariants.{Success}
 use Rattle.cove_tvm.specs.Called.{Called, IsMet}
-use Rattle.cove_model.specs.HostCalls.{rule}
+use Rattle.cove_model.specs.HostCalls.{Rule}
 use Rattle.cove_model.specs.LawfulStores.{IsLawful}
 use Rattle.cove_model.specs.Refusals.{first_failing}
 use Rattle.cove_model.specs.States.{State}
@@ -24,18 +23,18 @@ rises_within pages harts words new most epoch numbers within = record {
 }
 
 -- what a state must give for an accepted call
-pub record Accepts (hart : ℕ) (call : HostCall) (new : List ℕ) (H : Ground) (S : State) : Type 0 where
-  pub none : first_failing (rule S hart call).checks ≡ None
-  pub value : (rule S hart call).outcome.value ≡ 0
-  pub stands : Stands new H (rule S hart call).outcome.state
+pub record Accepts (r : Rule) (new : List ℕ) (H : Ground) : Type 0 where
+  pub none : first_failing r.checks ≡ None
+  pub value : r.outcome.value ≡ 0
+  pub stands : Stands new H r.outcome.state
 
 -- a call that every state accepts makes its stores
-pub accepts : (hart : ℕ) (call : HostCall) (words : List ℕ) (G H : Ground) (ss : List (ℕ × ℕ)) → AllAllowed (IsLawful G.pages G.harts hart words) words ss
+pub accepts : (hart : ℕ) (rule_in : State → Rule) (words : List ℕ) (G H : Ground) (ss : List (ℕ × ℕ)) → AllAllowed (IsLawful G.pages G.harts hart words) words ss
     → ((most : ℕ) → FencesWithin G.pages G.harts words most → FencesWithin G.pages G.harts (stored words ss) (most + 1))
     → get_or (stored words ss) (count_word G.pages G.harts) 0 ≡ get_or words (count_word G.pages G.harts) 0
-    → ((S : State) → IsMet S → Stands words G S → Accepts hart call (stored words ss) H S)
-    → Called hart call words (stored words ss) G H (record { status = Success; value = 0 })
-accepts hart call words G H ss lawful fences count each = record {
+    → ((S : State) → IsMet S → Stands words G S → Accepts (rule_in S) (stored words ss) H)
+    → Called hart rule_in words (stored words ss) G H (record { status = Success; value = 0 })
+accepts hart rule_in words G H ss lawful fences count each = record {
   serves = λ S met stands. let right = each S met stands in rw right.none (rw right.value refl, right.stands);
   lawful = (ss, lawful, refl);
   refused = λ e. absurd cc;

@@ -14,7 +14,7 @@ use Rattle.cove_host.proofs.CheckedLemmas.{each_passes}
 use Rattle.cove_tvm.specs.Called.{Called, IsReady}
 use Rattle.cove_host.specs.Checked.{all_checked}
 use Rattle.cove_model.specs.Checks.{AllFree, CpuNumber, Inside, IsBuilding, Live, NoCpuYet}
-use Rattle.cove_model.specs.HostCalls.{rule}
+use Rattle.cove_model.specs.HostCalls.{Rule, rule}
 use Rattle.cove_model.specs.LawfulStores.{AllowsLawful, IsLawful}
 use Rattle.cove_model.specs.Refusals.{Aligned, Check}
 use Rattle.cove_model.specs.Seated.{IsSeated}
@@ -54,21 +54,25 @@ passed words G S t v state u stands e =
     }
 
 module _ (words : List ℕ) (G : Ground) (hart v state : ℕ) (ready : IsReady words G) where
-  pass : (t : ℕ) → AllPass hart (VcpuCall t v state) words G → (S : State) → Stands words G S → Passed words G S t v state
+  -- the rule of the call
+  abbrev by_rule : (t : ℕ) → State → Rule
+  by_rule t S = rule S hart (VcpuCall t v state)
+
+  pass : (t : ℕ) → AllPass (by_rule t) words G → (S : State) → Stands words G S → Passed words G S t v state
   pass t told S stands = let one = told S stands in passed words G S t v state one.0 stands (sym one.1)
 
   -- the page is on the board
-  page_inside : (t : ℕ) → AllPass hart (VcpuCall t v state) words G → state / 4096 + 1 ≤ G.pages
+  page_inside : (t : ℕ) → AllPass (by_rule t) words G → state / 4096 + 1 ≤ G.pages
   page_inside t told = (pass t told ready.state ready.stands).given.inside
 
-  store_lawful : (t : ℕ) → AllPass hart (VcpuCall t v state) words G → AllAllowed (IsLawful G.pages G.harts hart words) words (vcpu_stores t state)
+  store_lawful : (t : ℕ) → AllPass (by_rule t) words G → AllAllowed (IsLawful G.pages G.harts hart words) words (vcpu_stores t state)
   store_lawful zero told = let one = (pass 0 told ready.state ready.stands).given in absurd (none-some one.old one.live)
   store_lawful (suc k) told =
       let one = (pass (suc k) told ready.state ready.stands).given in
       adding_is_lawful k words G ready.state hart state one.old one.model (may_give ready.stands one)
 
   -- and so allowed where every lawful store is
-  pub store_allowed : (allows : List ℕ → ℕ → ℕ → Type 0) → AllowsLawful allows G.pages G.harts hart words → (t : ℕ) → AllPass hart (VcpuCall t v state) words G
+  pub store_allowed : (allows : List ℕ → ℕ → ℕ → Type 0) → AllowsLawful allows G.pages G.harts hart words → (t : ℕ) → AllPass (by_rule t) words G
       → AllAllowed allows words (vcpu_stores t state)
   store_allowed allows lawful t told =
       AllAllowed-weaker (IsLawful G.pages G.harts hart words) allows words (vcpu_stores t state) lawful (store_lawful t told)
@@ -87,14 +91,14 @@ module _ (words : List ℕ) (G : Ground) (hart v state : ℕ) (ready : IsReady w
         stands_written G G.memory k done.2 refl
         (adding_stands k words G S hart v state one.given.old done.0 one.given.model (may_give stands one.given) seated one.none done.1)
 
-    behind : (t : ℕ) → AllPass hart (VcpuCall t v state) words G → (at : ℕ) → G.pages ≤ at → get_or (stored words (vcpu_stores t state)) at 0 ≡ get_or words at 0
+    behind : (t : ℕ) → AllPass (by_rule t) words G → (at : ℕ) → G.pages ≤ at → get_or (stored words (vcpu_stores t state)) at 0 ≡ get_or words at 0
     behind t told at past = let inside = page_inside t told in get_or-fills_other words (state / 4096) 1 (given t Vcpu) at (inr (omega arith))
 
     -- an accepted call, by what the code leaves
-    pub adds_vcpu : (t : ℕ) (new : List ℕ) → AllPass hart (VcpuCall t v state) words G → Adds t → new ≡ stored words (vcpu_stores t state)
-        → Called hart (VcpuCall t v state) words new G H (record { status = Success; value = 0 })
+    pub adds_vcpu : (t : ℕ) (new : List ℕ) → AllPass (by_rule t) words G → Adds t → new ≡ stored words (vcpu_stores t state)
+        → Called hart (by_rule t) words new G H (record { status = Success; value = 0 })
     adds_vcpu t new told adds stores =
-        subst (λ ws. Called hart (VcpuCall t v state) words ws G H (record { status = Success; value = 0 })) (sym stores)
-        (passed_call hart (VcpuCall t v state) words G H (vcpu_stores t state) told
+        subst (λ ws. Called hart (by_rule t) words ws G H (record { status = Success; value = 0 })) (sym stores)
+        (passed_call hart (by_rule t) words G H (vcpu_stores t state) told
         (λ S met stands. after t S stands met.seated (pass t told S stands) adds) (λ S. refl) (store_lawful t told)
         (λ at past. behind t told at (omega arith)))

@@ -17,6 +17,7 @@ use Rattle.cove_tvm.specs.Called.{Called, IsReady}
 use Rattle.cove_host.specs.Checked.{all_checked}
 use Rattle.cove_model.proofs.LawfulProofs.{convert_is_lawful}
 use Rattle.cove_model.specs.Checks.{AllHost, Inside, NoneShared}
+use Rattle.cove_model.specs.HostCalls.{rule}
 use Rattle.cove_model.specs.LawfulStores.{AllowsLawful, IsLawful}
 use Rattle.cove_model.specs.Owners.{every, is_host}
 use Rattle.cove_model.specs.Refusals.{Aligned, Check, Count}
@@ -66,9 +67,9 @@ module _ (words : List ℕ) (G : Ground) (hart base n : ℕ) (ready : IsReady wo
   behind at past =
       let fits = here.inside in get_or-fills_other words (base / 4096) n (converting (epoch_in G.pages words)) at (inr (omega arith))
 
-  pub convert_accepted : Called hart (Convert base n) words (stored words (convert_stores G.pages words base n)) G G (record { status = Success; value = 0 })
+  pub convert_accepted : Called hart (λ S. rule S hart (Convert base n)) words (stored words (convert_stores G.pages words base n)) G G (record { status = Success; value = 0 })
   convert_accepted =
-      accepts hart (Convert base n) words G G (convert_stores G.pages words base n) stores_lawful
+      accepts hart (λ S. rule S hart (Convert base n)) words G G (convert_stores G.pages words base n) stores_lawful
       (λ most within. stays_within G.pages G.harts words (stored words (convert_stores G.pages words base n)) most behind within)
       (behind (count_word G.pages G.harts) (omega arith))
       (λ S met stands.

@@ -5,7 +5,6 @@ use Rattle.cove_base.proofs.StoreLemmas.{AllAllowed-split, AllAllowed-weaker, ge
 use Rattle.cove_base.specs.PageWords.{given}
 use Rattle.cove_base.specs.Places.{count_word, epoch_word, tvm_word}
 use Rattle.cove_base.specs.Stores.{AllAllowed, fills, stored}
-use Rattle.cove_base.specs.declared.calls.HostCall.{HostCall}
 use Rattle.cove_base.specs.declared.calls.HostCall.TheVariants.{Create, Info}
 use Rattle.cove_base.specs.declared.limits.TheConstants.{ENTRY_LIMIT, TVM_LIMIT}
 use Rattle.cove_base.specs.declared.numbers.Role.TheVariants.{Root, State}
@@ -17,7 +16,7 @@ use Rattle.cove_host.proofs.ReadyWords.{fences_within}
 use Rattle.cove_tvm.specs.Called.{Called, IsReady}
 use Rattle.cove_host.specs.Checked.{all_checked}
 use Rattle.cove_model.specs.Checks.{AllFree, Inside, RoomForTvm, RootAligned, StateApart}
-use Rattle.cove_model.specs.HostCalls.{rule}
+use Rattle.cove_model.specs.HostCalls.{Rule, rule}
 use Rattle.cove_model.specs.LawfulStores.{AllowsLawful, IsLawful}
 use Rattle.cove_model.specs.Owners.{every, is_free}
 use Rattle.cove_model.specs.Refusals.{Aligned, Check}
@@ -70,10 +69,10 @@ stays_within pages harts words new most behind within = record {
 }
 
 -- a call that every state refuses alike changes nothing
-pub refuses : (hart : ℕ) (call : HostCall) (words : List ℕ) (G : Ground) (reply : Reply)
-    → ((S : MonitorState) → Stands words G S → Err reply ≡ all_checked (rule S hart call).checks) → Called hart call words words G G reply
-refuses hart call words G reply each = record {
-  serves = λ S met stands. rw (one_fails (rule S hart call).checks reply (sym (each S stands))) (refl, stands);
+pub refuses : (hart : ℕ) (rule_in : MonitorState → Rule) (words : List ℕ) (G : Ground) (reply : Reply)
+    → ((S : MonitorState) → Stands words G S → Err reply ≡ all_checked (rule_in S).checks) → Called hart rule_in words words G G reply
+refuses hart rule_in words G reply each = record {
+  serves = λ S met stands. rw (one_fails (rule_in S).checks reply (sym (each S stands))) (refl, stands);
   lawful = ([], tt, refl);
   refused = λ e. (refl, refl);
   fences = λ most within. stays_within G.pages G.harts words words most (λ at past. refl) within;
@@ -82,7 +81,7 @@ refuses hart call words G reply each = record {
 }
 
 -- a call for the monitor's state changes nothing
-pub informs : (hart : ℕ) (words : List ℕ) (G : Ground) → Called hart Info words words G G (record { status = Success; value = 1 })
+pub informs : (hart : ℕ) (words : List ℕ) (G : Ground) → Called hart (λ S. rule S hart Info) words words G G (record { status = Success; value = 1 })
 informs hart words G = record {
   serves = λ S met stands. (refl, stands);
   lawful = ([], tt, refl);
@@ -101,6 +100,10 @@ table_is x y pages tvms =
 
 module _ (words : List ℕ) (G : Ground) (hart root state : ℕ) (ready : IsReady words G)
     (told : (S : MonitorState) → Stands words G S → (u : Unit {0}) × (Ok u ≡ all_checked (creation_checks S root state))) where
+  -- the rule of the call
+  abbrev creation : MonitorState → Rule
+  creation S = rule S hart (Create root state)
+
   may : (S : MonitorState) → Stands words G S → MayCreate G.pages root state S
   may S stands = let t = told S stands in may_create words G S root state t.0 stands (sym t.1)
 
@@ -136,7 +139,7 @@ module _ (words : List ℕ) (G : Ground) (hart root state : ℕ) (ready : IsRead
       ∙ get_or-fills_other words (root / 4096) 4 (given t Root) at (inr (omega arith))
 
   accepted_by : (t : ℕ) (tvm : Tvm) → t ≡ length G.tvms.tvms + 1 → IsNewTvm G.tvms.pages (root / 4096) (state / 4096) tvm
-      → Called hart (Create root state) words (stored words (create_stores t root state)) G (record G { tvms = with_new G.tvms tvm }) (record { status = Success; value = t })
+      → Called hart creation words (stored words (create_stores t root state)) G (record G { tvms = with_new G.tvms tvm }) (record { status = Success; value = t })
   accepted_by t tvm is fresh = record {
     serves = λ S met stands.
         let found = told S stands in
@@ -159,11 +162,11 @@ module _ (words : List ℕ) (G : Ground) (hart root state : ℕ) (ready : IsRead
   pub creates : (t value : ℕ) (tvm : Tvm) (table : TvmTable) (new : List ℕ) → t ≡ length G.tvms.tvms + 1 → value ≡ t
       → IsNewTvm G.tvms.pages (root / 4096) (state / 4096) tvm → table.tvms ≡ G.tvms.tvms ++ tvm ∷ [] → table.pages ≡ G.tvms.pages
       → new ≡ stored (stored words (fills (root / 4096) 4 (given t Root))) (fills (state / 4096) 1 (given t State))
-      → Called hart (Create root state) words new G (record G { tvms = table }) (record { status = Success; value = value })
+      → Called hart creation words new G (record G { tvms = table }) (record { status = Success; value = value })
   creates t value tvm table new is number fresh grown board stores =
       let words_are = stores ∙ sym (stored-append words (fills (root / 4096) 4 (given t Root)) (fills (state / 4096) 1 (given t State))) in
-      subst (λ ws. Called hart (Create root state) words ws G (record G { tvms = table }) (record { status = Success; value = value })) (sym words_are)
-      (subst (λ all. Called hart (Create root state) words (stored words (create_stores t root state)) G (record G { tvms = all }) (record { status = Success; value = value }))
+      subst (λ ws. Called hart creation words ws G (record G { tvms = table }) (record { status = Success; value = value })) (sym words_are)
+      (subst (λ all. Called hart creation words (stored words (create_stores t root state)) G (record G { tvms = all }) (record { status = Success; value = value }))
       (sym (table_is table (with_new G.tvms tvm) board grown))
-      (subst (λ n. Called hart (Create root state) words (stored words (create_stores t root state)) G (record G { tvms = with_new G.tvms tvm }) (record { status = Success; value = n })) (sym number)
+      (subst (λ n. Called hart creation words (stored words (create_stores t root state)) G (record G { tvms = with_new G.tvms tvm }) (record { status = Success; value = n })) (sym number)
       (accepted_by t tvm is fresh)))

@@ -174,7 +174,7 @@ module _ (words : List ℕ) (G : Ground) (hart t : ℕ) (ready : IsReady words G
     kept = destroyed ready.state ready.met ready.stands
 
     -- an accepted call, by what the code leaves
-    pub destroys_tvm : Called hart (Destroy t) words new G H (record { status = Success; value = 0 })
+    pub destroys_tvm : Called hart (λ S. rule S hart (Destroy t)) words new G H (record { status = Success; value = 0 })
     destroys_tvm = record {
       serves = λ S met stands.
           let one = told S stands in

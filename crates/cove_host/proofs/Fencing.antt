@@ -14,6 +14,7 @@ use Rattle.cove_host.proofs.Creating.{refuses}
 use Rattle.cove_tvm.specs.Called.{Called, IsReady}
 use Rattle.cove_model.proofs.LawfulProofs.{global_fence_is_lawful, local_fence_is_lawful}
 use Rattle.cove_model.proofs.ToldProofs.{words_tell_answered, words_tell_lowest}
+use Rattle.cove_model.specs.HostCalls.{rule}
 use Rattle.cove_model.specs.LawfulStores.{AllowsLawful, IsLawful}
 use Rattle.cove_model.specs.WordLaws.{AllAnswer, global_fence_stores, local_fence_stores}
 use Rattle.cove_model.specs.WordsStand.{epoch_in}
@@ -36,9 +37,9 @@ module _ (words : List ℕ) (G : Ground) (hart : ℕ) (ready : IsReady words G) 
   places_are = ap (λ first. fence_words first places.harts) first_is ∙ ap (λ n. fence_words (epoch_word G.pages) n) harts_is
 
   pub fence_denied : (k : ℕ) → IsBehind places words k → HaveAnswered places words k
-      → Called hart GlobalFence words words G G (record { status = AlreadyStarted; value = k })
+      → Called hart (λ S. rule S hart GlobalFence) words words G G (record { status = AlreadyStarted; value = k })
   fence_denied k behind below =
-      refuses hart GlobalFence words G (record { status = AlreadyStarted; value = k }) (λ S stands.
+      refuses hart (λ S. rule S hart GlobalFence) words G (record { status = AlreadyStarted; value = k }) (λ S stands.
       let is = rw places_are at behind in
       let told = words_tell_lowest G.pages G.harts words S k stands.words_stand.stands.owners (is.0, is.1, rw places_are at below) in
       rw (lt-ltb 0 (length S.unanswered) told.0, told.1))
@@ -54,11 +55,11 @@ module _ (words : List ℕ) (G : Ground) (hart : ℕ) (ready : IsReady words G) 
         (AllAllowed-weaker (IsLawful G.pages G.harts hart words) allows words (global_fence_stores G.pages words hart) lawful (begin_lawful all))
 
     pub fence_accepted : HaveAnswered places words places.harts
-        → Called hart GlobalFence words (stored words (begin_stores places words hart)) G G (record { status = Success; value = 0 })
+        → Called hart (λ S. rule S hart GlobalFence) words (stored words (begin_stores places words hart)) G G (record { status = Success; value = 0 })
     fence_accepted all =
         let answers : AllAnswer G.pages G.harts words = rw places_are at all in
         let new : List ℕ = stored words (global_fence_stores G.pages words hart) in
-        rw places_are (accepts hart GlobalFence words G G (global_fence_stores G.pages words hart) (begin_lawful all)
+        rw places_are (accepts hart (λ S. rule S hart GlobalFence) words G G (global_fence_stores G.pages words hart) (begin_lawful all)
         (λ most within.
         rises_within G.pages G.harts words new most (omega (arith, long, get_or-set_at {X = ℕ}, get_or-set_other {A = ℕ}))
         (λ t. omega (arith, on, get_or-set_other {A = ℕ})) within)
@@ -76,10 +77,10 @@ module _ (words : List ℕ) (G : Ground) (hart : ℕ) (ready : IsReady words G) 
         (AllAllowed-weaker (IsLawful G.pages G.harts hart words) allows words (local_fence_stores G.pages words hart) lawful
         (local_fence_is_lawful G.pages G.harts words hart on))
 
-    pub answer_accepted : Called hart LocalFence words (stored words (answer_stores places words hart)) G G (record { status = Success; value = 0 })
+    pub answer_accepted : Called hart (λ S. rule S hart LocalFence) words (stored words (answer_stores places words hart)) G G (record { status = Success; value = 0 })
     answer_accepted =
         let new : List ℕ = stored words (local_fence_stores G.pages words hart) in
-        rw places_are (accepts hart LocalFence words G G (local_fence_stores G.pages words hart) (local_fence_is_lawful G.pages G.harts words hart on)
+        rw places_are (accepts hart (λ S. rule S hart LocalFence) words G G (local_fence_stores G.pages words hart) (local_fence_is_lawful G.pages G.harts words hart on)
         (λ most within.
         rises_within G.pages G.harts words new most (omega (arith, get_or-set_other {A = ℕ})) (λ t. omega (arith, on, get_or-set_other {A = ℕ})) within)
         (omega (arith, get_or-set_other {A = ℕ}))

@@ -8,7 +8,7 @@ use Rattle.cove_host.proofs.CheckedLemmas.{each_passes}
 use Rattle.cove_host.proofs.LifeTold.{both_live}
 use Rattle.cove_tvm.specs.Called.{Called}
 use Rattle.cove_host.specs.Finalized.{IsFinalized}
-use Rattle.cove_model.specs.HostCalls.{rule}
+use Rattle.cove_model.specs.HostCalls.{Rule, rule}
 use Rattle.cove_model.specs.States.{State, find_tvm}
 use Rattle.cove_model.specs.Tvms.{Tvm as ModelTvm}
 use Rattle.cove_tvm.proofs.BuiltRegions.{live_stands}
@@ -20,6 +20,10 @@ use Rattle.cove_tvm.specs.declared.ground.Ground.{Ground}
 use Rattle.cove_tvm.specs.declared.machines.Tvm.{Tvm}
 
 module _ (words : List ℕ) (G H : Ground) (hart pc arg : ℕ) where
+  -- the rule of the call
+  abbrev by_rule : (t : ℕ) → State → Rule
+  by_rule t S = rule S hart (Finalize t pc arg)
+
   -- the ground after the TVM with a number was finalized
   abbrev Finishes : (t : ℕ) → Type 0
   Finishes t =
@@ -38,10 +42,10 @@ module _ (words : List ℕ) (G H : Ground) (hart pc arg : ℕ) where
       (done.1.measured model.records model.extensions old.fields.registers) done.1.v0 done.1.v1 done.1.v2 done.1.v3)
 
   -- an accepted call, by what the code leaves
-  pub finalizes : (t : ℕ) → AllPass hart (Finalize t pc arg) words G → Finishes t
-      → Called hart (Finalize t pc arg) words words G H (record { status = Success; value = 0 })
+  pub finalizes : (t : ℕ) → AllPass (by_rule t) words G → Finishes t
+      → Called hart (by_rule t) words words G H (record { status = Success; value = 0 })
   finalizes t told finishes =
-      passed_call hart (Finalize t pc arg) words G H [] told
+      passed_call hart (by_rule t) words G H [] told
       (λ S met stands.
       let passed = told S stands in
       let all = each_passes (rule S hart (Finalize t pc arg)).checks passed.0 (sym passed.1) in

@@ -14,7 +14,7 @@ use Rattle.cove_host.specs.GuestRuns.{mapping_checks}
 use Rattle.cove_host.specs.MeasuredRuns.{MeasuresOf, frames_from}
 use Rattle.cove_model.proofs.Runs.{every_at}
 use Rattle.cove_model.specs.Checks.{AllFree, AllHost, Inside, IsBuilding, Live}
-use Rattle.cove_model.specs.HostCalls.{page_records, rule, page_words_from}
+use Rattle.cove_model.specs.HostCalls.{Rule, page_records, page_words_from, rule}
 use Rattle.cove_model.specs.Owners.{Free, Host, Owner, every, is_free, is_host, page_at, words_of}
 use Rattle.cove_model.specs.Refusals.{Aligned, Check, Count}
 use Rattle.cove_model.specs.States.{State}
@@ -48,7 +48,11 @@ no_both Free host free = false≢true host
 no_both o host free = absurd (false≢true host)
 
 module _ {words : List ℕ} {G : Ground} (ready : IsReady words G) (src dst n gpa : ℕ) (near : gpa / 4096 + n ≤ 2 ^ 29) (hart : ℕ) where
-  pub measures : (t : ℕ) → AllPass hart (Measured t src dst n gpa) words G → (S : State) → Stands words G S → Measures words G S t src dst n gpa
+  -- the rule of the call
+  abbrev by_rule : (t : ℕ) → State → Rule
+  by_rule t S = rule S hart (Measured t src dst n gpa)
+
+  pub measures : (t : ℕ) → AllPass (by_rule t) words G → (S : State) → Stands words G S → Measures words G S t src dst n gpa
   measures t told S stands =
       let one = told S stands in
       let all = each_passes (measured_checks S t src dst n gpa) one.0 (sym one.1) in
@@ -64,7 +68,7 @@ module _ {words : List ℕ} {G : Ground} (ready : IsReady words G) (src dst n gp
       }
 
   -- the pages that are read are none of those that are given
-  pub apart : (t : ℕ) → 1 ≤ n → AllPass hart (Measured t src dst n gpa) words G → (src / 4096 + n ≤ dst / 4096) ⊎ (dst / 4096 + n ≤ src / 4096)
+  pub apart : (t : ℕ) → 1 ≤ n → AllPass (by_rule t) words G → (src / 4096 + n ≤ dst / 4096) ⊎ (dst / 4096 + n ≤ src / 4096)
   apart zero some told = absurd (measures 0 told ready.state ready.stands).grown
   apart (suc k) some told =
       let one = measures (suc k) told ready.state ready.stands in
@@ -121,14 +125,14 @@ module _ {words : List ℕ} {G : Ground} (ready : IsReady words G) (src dst n gp
         (run_mapped may (prepares may) new done.1.left done.1.mapped) measured)
 
     -- an accepted call, by what the code leaves
-    pub adds_measured : (t : ℕ) → AllPass hart (Measured t src dst n gpa) words G
+    pub adds_measured : (t : ℕ) → AllPass (by_rule t) words G
         → MeasuresOf t (gpa / 4096) (dst / 4096) n (with_memory words t dst n) new (record G { memory = frames }) H
-        → Called hart (Measured t src dst n gpa) words new G H (record { status = Success; value = 0 })
+        → Called hart (by_rule t) words new G H (record { status = Success; value = 0 })
     adds_measured zero told measures_of = absurd (measures 0 told ready.state ready.stands).grown
     adds_measured (suc k) told measures_of =
         let one = (measures (suc k) told ready.state ready.stands).grown in
         let done = measures_of one.old one.may.live in
-        run_called one.may (prepares one.may) hart (Measured (suc k) src dst n gpa) new H done.1.left told done.1.mapped
+        run_called one.may (prepares one.may) hart (by_rule (suc k)) new H done.1.left told done.1.mapped
         (memory_stores (suc k) dst n, memory_is_lawful k words G ready.state hart dst n gpa one.old one.model one.may, refl)
         (λ S met stands.
         let here = measures (suc k) told S stands in

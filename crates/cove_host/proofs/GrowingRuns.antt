@@ -4,7 +4,6 @@ use Rattle.std.proofs.lemmas.Bool.{ltb-false, not-false}
 use Rattle.std.proofs.lemmas.Option.{none-some, same_Some}
 use Rattle.std.specs.List.{list_any}
 use Rattle.std.specs.Prelude.{unwrap_or}
-use Rattle.cove_base.specs.declared.calls.HostCall.{HostCall}
 use Rattle.cove_base.specs.declared.statuses.Status.TheVariants.{InvalidAddress, Success}
 use Rattle.cove_host.proofs.CheckedLemmas.{each_passes}
 use Rattle.cove_host.proofs.LifeTold.{both_live}
@@ -15,7 +14,7 @@ use Rattle.cove_host.specs.GuestRuns.{mapping_checks}
 use Rattle.cove_host.specs.Mapped.{MapsRun, MayMapBy}
 use Rattle.cove_model.specs.Checks.{EnoughTables, Inside, IsRunnable, Live, Unmapped}
 use Rattle.cove_model.specs.GuestPages.{guests, missing_tables}
-use Rattle.cove_model.specs.HostCalls.{rule}
+use Rattle.cove_model.specs.HostCalls.{Rule}
 use Rattle.cove_model.specs.LawfulStores.{AllowsLawful, IsLawful, MakesLawful}
 use Rattle.cove_model.specs.Mappings.{mapping_of}
 use Rattle.cove_model.specs.Owners.{Owner, every}
@@ -117,14 +116,14 @@ module _ {test : Owner → Bool} {shared : Bool} {words mid : List ℕ} {G : Gro
       (subst (λ m. MayMap m G.harts mid (suc k) old.tables.root.0 old.pool.pages (gpa / 4096) (base / 4096) n shared) (sym (was may).board) (run_may may prepared)))
 
   -- an accepted call, by the lawful stores before the run, and the state after it
-  pub run_called : (hart : ℕ) (call : HostCall) (new : List ℕ) (H : Ground) (left : Pages) → AllPass hart call words G
+  pub run_called : (hart : ℕ) (rule_in : State → Rule) (new : List ℕ) (H : Ground) (left : Pages) → AllPass rule_in words G
       → MapsRun old.tables.pages old.tables.root.0 (gpa / 4096) (base / 4096) n n shared mid old.pool.pages new left.pages
       → MakesLawful G.pages G.harts hart words words mid
-      → ((R : State) → IsMet R → Stands words G R → Stands new H (rule R hart call).outcome.state)
-      → ((R : State) → (rule R hart call).outcome.value ≡ 0)
-      → Called hart call words new G H (record { status = Success; value = 0 })
-  run_called hart call new H left told mapped lawful after none =
+      → ((R : State) → IsMet R → Stands words G R → Stands new H (rule_in R).outcome.state)
+      → ((R : State) → (rule_in R).outcome.value ≡ 0)
+      → Called hart rule_in words new G H (record { status = Success; value = 0 })
+  run_called hart rule_in new H left told mapped lawful after none =
       let run = run_mapped new left mapped in
       let inside = may.inside in
-      lawful_call hart call words new G H told after none (leads_on (IsLawful G.pages G.harts hart words) words mid new lawful (run.lawful hart words))
+      lawful_call hart rule_in words new G H told after none (leads_on (IsLawful G.pages G.harts hart words) words mid new lawful (run.lawful hart words))
       (λ at past. run.elsewhere at (behind_elsewhere G.pages mid (suc k) at (omega arith)) ∙ prepared.others at (inr (omega arith)))

@@ -7,6 +7,7 @@ use Rattle.cove_host.proofs.PassedCalls.{AllPass, stands_written}
 use Rattle.cove_host.proofs.ReadyWords.{few_maps}
 use Rattle.cove_host.specs.Mapped.{MapsOf, MayMapBy}
 use Rattle.cove_host.specs.Raised.{AreHosts, MayRaise, RaisesBy}
+use Rattle.cove_model.specs.HostCalls.{Rule, rule}
 use Rattle.cove_model.specs.LawfulStores.{AllowsLawful}
 use Rattle.cove_model.specs.Owners.{is_host}
 use Rattle.cove_model.specs.States.{State}
@@ -19,18 +20,22 @@ use Rattle.cove_tvm.specs.declared.ground.Ground.{Ground}
 use Rattle.cove_tvm.specs.declared.machines.Tvm.{Tvm}
 
 module _ {words : List ℕ} {G : Ground} (ready : IsReady words G) (base n gpa : ℕ) (near : gpa / 4096 + n ≤ 2 ^ 29) (hart : ℕ) where
-  shares : (t : ℕ) → AllPass hart (Shared t base n gpa) words G → (S : State) → Stands words G S → Grows is_host words G S t base n gpa
+  -- the rule of the call
+  abbrev by_rule : (t : ℕ) → State → Rule
+  by_rule t S = rule S hart (Shared t base n gpa)
+
+  shares : (t : ℕ) → AllPass (by_rule t) words G → (S : State) → Stands words G S → Grows is_host words G S t base n gpa
   shares t told = run_grows ready base n gpa near is_host true t told
 
   -- the pages are the host's
-  hosts_are : (k : ℕ) → AllPass hart (Shared (suc k) base n gpa) words G → AreHosts (base / 4096) n words
+  hosts_are : (k : ℕ) → AllPass (by_rule (suc k)) words G → AreHosts (base / 4096) n words
   hosts_are k told p low high =
       let one = shares (suc k) told ready.state ready.stands in
       let inside = one.may.inside in
       (maps_of ready.state p, few_maps words G ready p (omega arith), host_word one.may p low high)
 
   -- their counts may be raised, and so may the run be mapped then
-  pub raise_allowed : (t : ℕ) → AllPass hart (Shared t base n gpa) words G → (allows : List ℕ → ℕ → ℕ → Type 0) → AllowsLawful allows G.pages G.harts hart words
+  pub raise_allowed : (t : ℕ) → AllPass (by_rule t) words G → (allows : List ℕ → ℕ → ℕ → Type 0) → AllowsLawful allows G.pages G.harts hart words
       → MayRaise allows (base / 4096) n words
   raise_allowed zero told allows lawful = absurd (shares 0 told ready.state ready.stands)
   raise_allowed (suc k) told allows lawful =
@@ -49,7 +54,7 @@ module _ {words : List ℕ} {G : Ground} (ready : IsReady words G) (base n gpa :
       }
 
   module _ (raised : List ℕ) (raises : RaisesBy (base / 4096) n words raised) where
-    pub shared_maps : (t : ℕ) → AllPass hart (Shared t base n gpa) words G → (allows : List ℕ → ℕ → ℕ → Type 0) → AllowsLawful allows G.pages G.harts hart words
+    pub shared_maps : (t : ℕ) → AllPass (by_rule t) words G → (allows : List ℕ → ℕ → ℕ → Type 0) → AllowsLawful allows G.pages G.harts hart words
         → (tvm : Tvm) → live_at G.tvms t ≡ Some tvm → MayMapBy allows tvm.tables.pages tvm.tables.root.0 (gpa / 4096) (base / 4096) n true raised tvm.pool.pages
     shared_maps zero told allows lawful tvm live = absurd (shares 0 told ready.state ready.stands)
     shared_maps (suc k) told allows lawful tvm live =
@@ -57,13 +62,13 @@ module _ {words : List ℕ} {G : Ground} (ready : IsReady words G) (base n gpa :
         run_allowed one.may (prepares one.may raises.raised) hart allows lawful tvm live
 
     -- an accepted call, by what the code leaves
-    pub adds_shared : (H : Ground) (new : List ℕ) (t : ℕ) → AllPass hart (Shared t base n gpa) words G → MapsOf t (gpa / 4096) (base / 4096) n true raised new G H
-        → Called hart (Shared t base n gpa) words new G H (record { status = Success; value = 0 })
+    pub adds_shared : (H : Ground) (new : List ℕ) (t : ℕ) → AllPass (by_rule t) words G → MapsOf t (gpa / 4096) (base / 4096) n true raised new G H
+        → Called hart (by_rule t) words new G H (record { status = Success; value = 0 })
     adds_shared H new zero told maps = absurd (shares 0 told ready.state ready.stands)
     adds_shared H new (suc k) told maps =
         let one = shares (suc k) told ready.state ready.stands in
         let done = maps one.old one.may.live in
-        run_called one.may (prepares one.may raises.raised) hart (Shared (suc k) base n gpa) new H done.1.left told done.1.mapped
+        run_called one.may (prepares one.may raises.raised) hart (by_rule (suc k)) new H done.1.left told done.1.mapped
         (raises.lawful G.pages G.harts hart words one.may.inside (hosts_are k told))
         (λ S met stands.
         let here = shares (suc k) told S stands in

@@ -7,6 +7,7 @@ use Rattle.cove_base.specs.declared.statuses.Status.TheVariants.{Success}
 use Rattle.cove_host.proofs.GrowingRuns.{Grows, run_allowed, run_called, run_grows, run_mapped}
 use Rattle.cove_host.proofs.PassedCalls.{AllPass, stands_written}
 use Rattle.cove_host.specs.Mapped.{MapsOf, MayMapBy}
+use Rattle.cove_model.specs.HostCalls.{Rule, rule}
 use Rattle.cove_model.specs.LawfulStores.{AllowsLawful, IsLawful}
 use Rattle.cove_model.specs.Owners.{is_free, zeros}
 use Rattle.cove_model.specs.States.{State}
@@ -42,19 +43,23 @@ module _ {words : List ℕ} {G : Ground} (ready : IsReady words G) (base n gpa :
   -- ---- the call for zeros
 
   module _ (near : gpa / 4096 + n ≤ 2 ^ 29) (hart : ℕ) where
-    pub zero_grows : (t : ℕ) → AllPass hart (Zero t base n gpa) words G → GrowsAlways t
+    -- the rule of the call
+    abbrev by_rule : (t : ℕ) → State → Rule
+    by_rule t S = rule S hart (Zero t base n gpa)
+
+    pub zero_grows : (t : ℕ) → AllPass (by_rule t) words G → GrowsAlways t
     zero_grows t told = run_grows ready base n gpa near is_free false t told
 
     -- an accepted call, by what the code leaves
     pub adds_zero : (H : Ground) (frames : List (List ℕ)) (new : List ℕ) → FillsFrames (base / 4096) n (λ j. zeros) G.memory frames
-        → (t : ℕ) → AllPass hart (Zero t base n gpa) words G
+        → (t : ℕ) → AllPass (by_rule t) words G
         → MapsOf t (gpa / 4096) (base / 4096) n false (with_memory words t base n) new (record G { memory = frames }) H
-        → Called hart (Zero t base n gpa) words new G H (record { status = Success; value = 0 })
+        → Called hart (by_rule t) words new G H (record { status = Success; value = 0 })
     adds_zero H frames new filled zero told maps = absurd (zero_grows 0 told ready.state ready.stands)
     adds_zero H frames new filled (suc k) told maps =
         let one = zero_grows (suc k) told ready.state ready.stands in
         let done = maps one.old one.may.live in
-        run_called one.may (prepares one.may) hart (Zero (suc k) base n gpa) new H done.1.left told done.1.mapped
+        run_called one.may (prepares one.may) hart (by_rule (suc k)) new H done.1.left told done.1.mapped
         (memory_stores (suc k) base n, memory_is_lawful k words G ready.state hart base n gpa one.old one.model one.may, refl)
         (λ S met stands.
         let here = zero_grows (suc k) told S stands in

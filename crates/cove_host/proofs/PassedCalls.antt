@@ -2,13 +2,12 @@
 use Rattle.std.proofs.Common.{◌≡◌, ◌-◌, ◌≤◌, ◌∙◌, ℕ, suc, List, get_or, Ok, sym, ap, subst, arith}
 use Rattle.cove_base.specs.Places.{count_word, epoch_word, tvm_word}
 use Rattle.cove_base.specs.Stores.{AllAllowed, stored}
-use Rattle.cove_base.specs.declared.calls.HostCall.{HostCall}
 use Rattle.cove_base.specs.declared.statuses.Status.TheVariants.{Success}
 use Rattle.cove_host.proofs.AcceptedCalls.{accepts, rises_within}
 use Rattle.cove_host.proofs.CheckedLemmas.{none_fails}
 use Rattle.cove_tvm.specs.Called.{Called, IsMet}
 use Rattle.cove_host.specs.Checked.{all_checked}
-use Rattle.cove_model.specs.HostCalls.{rule}
+use Rattle.cove_model.specs.HostCalls.{Rule}
 use Rattle.cove_model.specs.LawfulStores.{IsLawful, MakesLawful}
 use Rattle.cove_model.specs.States.{State}
 use Rattle.cove_tvm.specs.Stands.{Stands}
@@ -17,37 +16,37 @@ use Rattle.cove_tvm.specs.declared.ground.Ground.{Ground}
 use Rattle.cove_tvm.specs.declared.machines.Tvm.{Tvm}
 
 -- every check passes in every state that words and ground stand for
-abbrev pub AllPass : (hart : ℕ) → HostCall → List ℕ → Ground → Type 0
-AllPass hart call words G = (S : State) → Stands words G S → (u : Unit {0}) × (Ok u ≡ all_checked (rule S hart call).checks)
+abbrev pub AllPass : (State → Rule) → List ℕ → Ground → Type 0
+AllPass rule_in words G = (S : State) → Stands words G S → (u : Unit {0}) × (Ok u ≡ all_checked (rule_in S).checks)
 
 -- its stores are lawful and leave the words behind the tables, and it has no value
-pub passed_call : (hart : ℕ) (call : HostCall) (words : List ℕ) (G H : Ground) (ss : List (ℕ × ℕ)) → AllPass hart call words G
-    → ((S : State) → IsMet S → Stands words G S → Stands (stored words ss) H (rule S hart call).outcome.state)
-    → ((S : State) → (rule S hart call).outcome.value ≡ 0)
+pub passed_call : (hart : ℕ) (rule_in : State → Rule) (words : List ℕ) (G H : Ground) (ss : List (ℕ × ℕ)) → AllPass rule_in words G
+    → ((S : State) → IsMet S → Stands words G S → Stands (stored words ss) H (rule_in S).outcome.state)
+    → ((S : State) → (rule_in S).outcome.value ≡ 0)
     → AllAllowed (IsLawful G.pages G.harts hart words) words ss
     → ((at : ℕ) → epoch_word G.pages ≤ at → get_or (stored words ss) at 0 ≡ get_or words at 0)
-    → Called hart call words (stored words ss) G H (record { status = Success; value = 0 })
-passed_call hart call words G H ss told after none lawful behind =
-    accepts hart call words G H ss lawful
+    → Called hart rule_in words (stored words ss) G H (record { status = Success; value = 0 })
+passed_call hart rule_in words G H ss told after none lawful behind =
+    accepts hart rule_in words G H ss lawful
     (λ most within.
     let epoch = behind (epoch_word G.pages) (omega arith) in
     rises_within G.pages G.harts words (stored words ss) most (omega arith) (λ t. behind (tvm_word G.pages G.harts t) (omega arith)) within)
     (behind (count_word G.pages G.harts) (omega arith))
     (λ S met stands.
     let one = told S stands in
-    record { none = none_fails (rule S hart call).checks one.0 (sym one.1); value = none S; stands = after S met stands })
+    record { none = none_fails (rule_in S).checks one.0 (sym one.1); value = none S; stands = after S met stands })
 
 -- the same by words that lawful stores lead to
-pub lawful_call : (hart : ℕ) (call : HostCall) (words new : List ℕ) (G H : Ground) → AllPass hart call words G
-    → ((S : State) → IsMet S → Stands words G S → Stands new H (rule S hart call).outcome.state)
-    → ((S : State) → (rule S hart call).outcome.value ≡ 0)
+pub lawful_call : (hart : ℕ) (rule_in : State → Rule) (words new : List ℕ) (G H : Ground) → AllPass rule_in words G
+    → ((S : State) → IsMet S → Stands words G S → Stands new H (rule_in S).outcome.state)
+    → ((S : State) → (rule_in S).outcome.value ≡ 0)
     → MakesLawful G.pages G.harts hart words words new
     → ((at : ℕ) → epoch_word G.pages ≤ at → get_or new at 0 ≡ get_or words at 0)
-    → Called hart call words new G H (record { status = Success; value = 0 })
-lawful_call hart call words new G H told after none lawful behind =
-    subst (λ ws. Called hart call words ws G H (record { status = Success; value = 0 })) (sym lawful.2)
-    (passed_call hart call words G H lawful.0 told
-    (λ S met stands. subst (λ ws. Stands ws H (rule S hart call).outcome.state) lawful.2 (after S met stands)) none lawful.1
+    → Called hart rule_in words new G H (record { status = Success; value = 0 })
+lawful_call hart rule_in words new G H told after none lawful behind =
+    subst (λ ws. Called hart rule_in words ws G H (record { status = Success; value = 0 })) (sym lawful.2)
+    (passed_call hart rule_in words G H lawful.0 told
+    (λ S met stands. subst (λ ws. Stands ws H (rule_in S).outcome.state) lawful.2 (after S met stands)) none lawful.1
     (λ at past. ap (λ ws. get_or ws at 0) (sym lawful.2) ∙ behind at past))
 
 -- the ground with frames that were filled and a TVM that was written anew

@@ -17,6 +17,7 @@ use Rattle.cove_model.proofs.LawfulProofs.{reclaim_is_lawful}
 use Rattle.cove_model.proofs.Runs.{every_at}
 use Rattle.cove_model.proofs.StandLemmas.{free_page}
 use Rattle.cove_model.specs.Checks.{AllFree, Inside}
+use Rattle.cove_model.specs.HostCalls.{rule}
 use Rattle.cove_model.specs.LawfulStores.{AllowsLawful, IsFreeIn, IsLawful}
 use Rattle.cove_model.specs.Owners.{every, is_free, page_at}
 use Rattle.cove_model.specs.Refusals.{Aligned, Check, Count}
@@ -62,10 +63,10 @@ module _ (words : List ℕ) (G : Ground) (hart base n : ℕ) (ready : IsReady wo
   behind : (at : ℕ) → G.pages ≤ at → get_or (stored words (reclaim_stores base n)) at 0 ≡ get_or words at 0
   behind at past = let fits = inside in get_or-fills_other words (base / 4096) n (host 0) at (inr (omega arith))
 
-  pub reclaim_accepted : Called hart (Reclaim base n) words (stored words (reclaim_stores base n)) G (record G { memory = zeroed G.memory (base / 4096) n })
+  pub reclaim_accepted : Called hart (λ S. rule S hart (Reclaim base n)) words (stored words (reclaim_stores base n)) G (record G { memory = zeroed G.memory (base / 4096) n })
       (record { status = Success; value = 0 })
   reclaim_accepted =
-      accepts hart (Reclaim base n) words G (record G { memory = zeroed G.memory (base / 4096) n }) (reclaim_stores base n) stores_lawful
+      accepts hart (λ S. rule S hart (Reclaim base n)) words G (record G { memory = zeroed G.memory (base / 4096) n }) (reclaim_stores base n) stores_lawful
       (λ most within. stays_within G.pages G.harts words (stored words (reclaim_stores base n)) most behind within)
       (behind (count_word G.pages G.harts) (omega arith))
       (λ S met stands.

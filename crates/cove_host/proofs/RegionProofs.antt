@@ -18,7 +18,7 @@ use Rattle.cove_host.specs.Checked.{all_checked}
 use Rattle.cove_host.specs.MoreRegions.{AddsRegion, HasRegion, has_all_regions, meets_region}
 use Rattle.cove_model.specs.Checks.{IsArea, IsBuilding, Live, NoOverlap, RoomForRegion}
 use Rattle.cove_model.specs.GuestPages.{meets}
-use Rattle.cove_model.specs.HostCalls.{rule}
+use Rattle.cove_model.specs.HostCalls.{Rule, rule}
 use Rattle.cove_model.specs.Refusals.{Aligned, Check}
 use Rattle.cove_model.specs.States.{State, find_tvm}
 use Rattle.cove_model.specs.Tvms.{Tvm as ModelTvm, new_tvm}
@@ -118,6 +118,10 @@ passed words G S t gpa len u stands e =
     }
 
 module _ (words : List ℕ) (G H : Ground) (hart gpa len : ℕ) where
+  -- the rule of the call
+  abbrev by_rule : (t : ℕ) → State → Rule
+  by_rule t S = rule S hart (Region t gpa len)
+
   abbrev Adds : (t : ℕ) → Type 0
   Adds t =
       (old : Tvm) → live_at G.tvms t ≡ Some old
@@ -155,9 +159,9 @@ module _ (words : List ℕ) (G H : Ground) (hart gpa len : ℕ) where
       (near one.old.regions new.regions one.within one.begins one.lasts has.regions was.fields.near))
 
   -- an accepted call, by what the code leaves
-  pub adds_region : (t : ℕ) → AllPass hart (Region t gpa len) words G → Adds t
-      → Called hart (Region t gpa len) words words G H (record { status = Success; value = 0 })
+  pub adds_region : (t : ℕ) → AllPass (by_rule t) words G → Adds t
+      → Called hart (by_rule t) words words G H (record { status = Success; value = 0 })
   adds_region t told adds =
-      passed_call hart (Region t gpa len) words G H [] told
+      passed_call hart (by_rule t) words G H [] told
       (λ S met stands. let one = told S stands in after t S stands (passed words G S t gpa len one.0 stands (sym one.1)) adds)
       (λ S. refl) tt (λ at past. refl)

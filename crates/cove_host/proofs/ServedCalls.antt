@@ -5,8 +5,7 @@ use Rattle.cove_base.specs.declared.statuses.Reply.{Reply}
 use Rattle.cove_base.specs.declared.statuses.Status.TheVariants.{NotSupported}
 use Rattle.cove_host.proofs.Creating.{stays_within}
 use Rattle.cove_tvm.specs.Called.{Called}
-use Rattle.cove_tvm.specs.Served.{IsServed}
-use Rattle.cove_model.specs.Answers.{is_built, refusal, reply_by, state_after_rule}
+use Rattle.cove_model.specs.Answers.{is_built, refusal, reply_by, rule_of, state_after_rule}
 use Rattle.cove_model.specs.HostCalls.{Rule, rule}
 use Rattle.cove_model.specs.Refusals.{first_failing, plain}
 use Rattle.cove_model.specs.States.{State}
@@ -23,9 +22,9 @@ IsAnswer new H reply S r = (reply ≡ reply_by r) × Stands new H (state_after_r
 
 -- a call that is built is answered by its rule
 pub built_served : (hart : ℕ) (call named : HostCall) (words new : List ℕ) (G H : Ground) (reply : Reply) → call ≡ named
-    → Called hart named words new G H reply → is_built named ≡ true → IsServed hart call words new G H reply
+    → Called hart (λ S. rule S hart named) words new G H reply → is_built named ≡ true → Called hart (λ S. rule_of S hart call) words new G H reply
 built_served hart call named words new G H reply is called built =
-    subst (λ (k : HostCall). IsServed hart k words new G H reply) (sym is) (record {
+    subst (λ (k : HostCall). Called hart (λ S. rule_of S hart k) words new G H reply) (sym is) (record {
       serves = λ S met stands. as_built S (called.serves S met stands);
       lawful = called.lawful;
       refused = called.refused;
@@ -39,7 +38,7 @@ built_served hart call named words new G H reply is called built =
 
 -- it is not supported, and changes nothing
 pub unbuilt_served : (hart : ℕ) (call : HostCall) (words : List ℕ) (G : Ground) → is_built call ≡ false
-    → IsServed hart call words words G G (record { status = NotSupported; value = 0 })
+    → Called hart (λ S. rule_of S hart call) words words G G (record { status = NotSupported; value = 0 })
 unbuilt_served hart call words G unbuilt = record {
   serves = λ S met stands. rw (refused S) (refl, stands);
   lawful = ([], tt, refl);

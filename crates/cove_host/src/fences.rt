@@ -5,6 +5,7 @@ ghost use Rattle.cove_base.specs.Places.{epoch_word};
 ghost use Rattle.cove_base.specs.declared.calls.HostCall.TheVariants.{GlobalFence, LocalFence};
 ghost use Rattle.cove_base.specs.declared.limits.TheConstants.{HART_LIMIT, PAGE_LIMIT};
 ghost use Rattle.cove_tvm.specs.Called.{Called, IsReady};
+ghost use Rattle.cove_model.specs.HostCalls.{rule};
 ghost use Rattle.cove_model.specs.LawfulStores.{AllowsLawful};
 
 use crate::checks::DONE;
@@ -17,7 +18,7 @@ pub fn global_fence<W: Words>(w: &mut W, g: &mut Ground, h: HartId) -> Reply
     requires ready { IsReady (W.words w.old) g.old }
     requires on_board { h.0 < g.old.harts }
     requires allowed { AllowsLawful (W.allows (W.guard w.old)) g.old.pages g.old.harts h.0 (W.words w.old) }
-    ensures called { Called h.0 GlobalFence (W.words w.old) (W.words w.new) g.old g.new result }
+    ensures called { Called h.0 (λ S. rule S h.0 GlobalFence) (W.words w.old) (W.words w.new) g.old g.new result }
     ensures guard { W.guard w.new ≡ W.guard w.old }
 {
     match epochs(g).begin(w, h) {
@@ -34,7 +35,7 @@ pub fn local_fence<W: Words>(w: &mut W, g: &mut Ground, h: HartId) -> Reply
     requires ready { IsReady (W.words w.old) g.old }
     requires on_board { h.0 < g.old.harts }
     requires allowed { AllowsLawful (W.allows (W.guard w.old)) g.old.pages g.old.harts h.0 (W.words w.old) }
-    ensures called { Called h.0 LocalFence (W.words w.old) (W.words w.new) g.old g.new result }
+    ensures called { Called h.0 (λ S. rule S h.0 LocalFence) (W.words w.old) (W.words w.new) g.old g.new result }
     ensures guard { W.guard w.new ≡ W.guard w.old }
 {
     epochs(g).answer(w, h);

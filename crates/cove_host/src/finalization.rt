@@ -31,7 +31,7 @@ pub fn finalize_tvm<W: Words>(
     pc: u64,
     arg: u64,
 ) -> Reply
-    ensures called { Called h.0 (Finalize t pc arg) (W.words w.old) (W.words w.new) g.old g.new result }
+    ensures called { Called h.0 (λ S. rule S h.0 (Finalize t pc arg)) (W.words w.old) (W.words w.new) g.old g.new result }
     ensures unchanged { Unchanged W.words W.clean W.guard w.old w.new }
 {
     match finalizable(g, t, pc) {

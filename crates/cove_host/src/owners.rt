@@ -31,7 +31,7 @@ pub fn convert_pages<W: Words>(w: &mut W, g: &mut Ground, h: HartId, base: u64, 
     requires ready { IsReady (W.words w.old) g.old }
     requires on_board { h.0 < g.old.harts }
     requires allowed { AllowsLawful (W.allows (W.guard w.old)) g.old.pages g.old.harts h.0 (W.words w.old) }
-    ensures called { Called h.0 (Convert base n) (W.words w.old) (W.words w.new) g.old g.new result }
+    ensures called { Called h.0 (λ S. rule S h.0 (Convert base n)) (W.words w.old) (W.words w.new) g.old g.new result }
     ensures guard { W.guard w.new ≡ W.guard w.old }
 {
     match convertible(w, g, base, n) {
@@ -64,7 +64,7 @@ pub fn reclaim_pages<W: Words>(w: &mut W, g: &mut Ground, h: HartId, base: u64, 
     requires ready { IsReady (W.words w.old) g.old }
     requires on_board { h.0 < g.old.harts }
     requires allowed { AllowsLawful (W.allows (W.guard w.old)) g.old.pages g.old.harts h.0 (W.words w.old) }
-    ensures called { Called h.0 (Reclaim base n) (W.words w.old) (W.words w.new) g.old g.new result }
+    ensures called { Called h.0 (λ S. rule S h.0 (Reclaim base n)) (W.words w.old) (W.words w.new) g.old g.new result }
     ensures guard { W.guard w.new ≡ W.guard w.old }
 {
     match reclaimable(w, g, base, n) {

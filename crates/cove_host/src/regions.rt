@@ -29,7 +29,7 @@ pub fn add_memory_region<W: Words>(
     gpa: u64,
     len: u64,
 ) -> Reply
-    ensures called { Called h.0 (Region t gpa len) (W.words w.old) (W.words w.new) g.old g.new result }
+    ensures called { Called h.0 (λ S. rule S h.0 (Region t gpa len)) (W.words w.old) (W.words w.new) g.old g.new result }
     ensures unchanged { Unchanged W.words W.clean W.guard w.old w.new }
 {
     match addable(g, t, gpa, len) {

@@ -35,7 +35,7 @@ pub fn create_vcpu<W: Words>(
     requires ready { IsReady (W.words w.old) g.old }
     requires on_board { h.0 < g.old.harts }
     requires allowed { AllowsLawful (W.allows (W.guard w.old)) g.old.pages g.old.harts h.0 (W.words w.old) }
-    ensures called { Called h.0 (Vcpu t v state) (W.words w.old) (W.words w.new) g.old g.new result }
+    ensures called { Called h.0 (λ S. rule S h.0 (Vcpu t v state)) (W.words w.old) (W.words w.new) g.old g.new result }
     ensures guard { W.guard w.new ≡ W.guard w.old }
 {
     match addable(w, g, t, v, state) {

@@ -16,7 +16,7 @@ use Rattle.cove_model.proofs.Ordering.{orderly}
 use Rattle.cove_model.proofs.Running.{none_seated}
 use Rattle.cove_model.proofs.StoreLawProofs.{answers_apart}
 use Rattle.cove_model.specs.LawfulStores.{IsLawful, MakesLawful}
-use Rattle.cove_model.specs.Answers.{is_built, refusal, refusal_by, reply_to, state_by}
+use Rattle.cove_model.specs.Answers.{is_built, refusal, refusal_by, reply_to, rule_of, state_by}
 use Rattle.cove_model.specs.HostCalls.{rule}
 use Rattle.cove_model.specs.Owners.{AsState, Given, Host, page_at}
 use Rattle.cove_model.specs.Refusals.{first_failing, plain}
@@ -27,7 +27,6 @@ use Rattle.cove_lives.specs.CallExamples.{only, small_ground, small_script, smal
 use Rattle.cove_tvm.specs.Called.{Called, IsMet, IsReady}
 use Rattle.cove_lives.specs.Examples.{nine_free}
 use Rattle.cove_tvm.specs.GroundLaws.{IsNewGround}
-use Rattle.cove_tvm.specs.Served.{IsServed}
 use Rattle.cove_tvm.specs.Stands.{Stands}
 use Rattle.cove_tvm.specs.declared.ground.Ground.{Ground}
 
@@ -104,7 +103,7 @@ fences_stay pages harts most words within = record {
   numbers = λ t low high. let few = within.numbers t low high in omega arith;
 }
 
-pub refused : (hart : ℕ) (words : List ℕ) (G : Ground) → Called hart (Convert 0 0) words words G G (only InvalidParam)
+pub refused : (hart : ℕ) (words : List ℕ) (G : Ground) → Called hart (λ S. rule S hart (Convert 0 0)) words words G G (only InvalidParam)
 refused hart words G = record {
   serves = λ S met stands. (refl, stands);
   lawful = ([], tt, refl);
@@ -119,24 +118,24 @@ other_status : (r : Reply) → is_success r.status ≡ false → only Success �
 other_status r e same = true≢false (ap (λ (one : Reply). is_success one.status) same ∙ e)
 
 pub another_status : (hart : ℕ) (words new : List ℕ) (G H : Ground) (S : State) → IsMet S → Stands words G S
-    → Called hart (Convert 0 0) words new G H (only Success) → ⊥
+    → Called hart (λ S. rule S hart (Convert 0 0)) words new G H (only Success) → ⊥
 another_status hart words new G H S met stands called = other_status (only InvalidParam) refl (called.serves S met stands).0
 
 -- a word or a ground that differs
 changed_word : (rest : List ℕ) → 1 ∷ rest ≡ 0 ∷ rest → ⊥
 changed_word rest same = let is : ◌≡◌ {A = ℕ} 1 0 = ap (λ (words : List ℕ). get_or words 0 0) same in omega arith
 
-pub word_changed : (hart : ℕ) (call : HostCall) (rest : List ℕ) (G H : Ground) → Called hart call (0 ∷ rest) (1 ∷ rest) G H (only Denied) → ⊥
+pub word_changed : (hart : ℕ) (call : HostCall) (rest : List ℕ) (G H : Ground) → Called hart (λ S. rule S hart call) (0 ∷ rest) (1 ∷ rest) G H (only Denied) → ⊥
 word_changed hart call rest G H called = changed_word rest (called.refused refl).0
 
 pub ground_changed : (hart : ℕ) (call : HostCall) (words new : List ℕ) (G : Ground)
-    → Called hart call words new G (record G { kicked = G.kicked + 1 }) (only Denied) → ⊥
+    → Called hart (λ S. rule S hart call) words new G (record G { kicked = G.kicked + 1 }) (only Denied) → ⊥
 ground_changed hart call words new G called =
     let is : G.kicked + 1 ≡ G.kicked = ap (λ (one : Ground). one.kicked) (called.refused refl).1 in
     omega arith
 
 pub no_tvm : (hart root state : ℕ) (words new : List ℕ) (G : Ground) (S : State) (reply : Reply) → IsMet S → Stands words G S
-    → refusal_by (rule S hart (Create root state)) ≡ None → Called hart (Create root state) words new G G reply → ⊥
+    → refusal_by (rule S hart (Create root state)) ≡ None → Called hart (λ S. rule S hart (Create root state)) words new G G reply → ⊥
 no_tvm hart root state words new G S reply met stands passes called =
     let after = subst (λ o. Stands new G (state_by o S (rule S hart (Create root state)).outcome.state)) passes (called.serves S met stands).1 in
     let was : length G.tvms.tvms ≡ S.made = stands.board.made in
@@ -169,19 +168,19 @@ by_two pages harts new five within = let few : epoch_in pages new ≤ 4 = within
 
 module _ (hart : ℕ) (call : HostCall) where
   pub count_moved : (words : List ℕ) (G H : Ground) (reply : Reply) → count_word G.pages G.harts < length words
-      → Called hart call words (set words (count_word G.pages G.harts) (get_or words (count_word G.pages G.harts) 0 + 1)) G H reply → ⊥
+      → Called hart (λ S. rule S hart call) words (set words (count_word G.pages G.harts) (get_or words (count_word G.pages G.harts) 0 + 1)) G H reply → ⊥
   count_moved words G H reply low called = raised words (count_word G.pages G.harts) low called.count
 
   pub served_count : (words : List ℕ) (G H : Ground) (reply : Reply) → count_word G.pages G.harts < length words
-      → IsServed hart call words (set words (count_word G.pages G.harts) (get_or words (count_word G.pages G.harts) 0 + 1)) G H reply → ⊥
+      → Called hart (λ S. rule_of S hart call) words (set words (count_word G.pages G.harts) (get_or words (count_word G.pages G.harts) 0 + 1)) G H reply → ⊥
   served_count words G H reply low served = raised words (count_word G.pages G.harts) low served.count
 
   pub fence_by_two : (words new : List ℕ) (G H : Ground) (reply : Reply) → FencesWithin G.pages G.harts words 3 → epoch_in G.pages new ≡ 5
-      → Called hart call words new G H reply → ⊥
+      → Called hart (λ S. rule S hart call) words new G H reply → ⊥
   fence_by_two words new G H reply within five called = by_two G.pages G.harts new five (called.fences 3 within)
 
   pub served_fence : (words new : List ℕ) (G H : Ground) (reply : Reply) → FencesWithin G.pages G.harts words 3 → epoch_in G.pages new ≡ 5
-      → IsServed hart call words new G H reply → ⊥
+      → Called hart (λ S. rule_of S hart call) words new G H reply → ⊥
   served_fence words new G H reply within five served = by_two G.pages G.harts new five (served.fences 3 within)
 
 module _ (hart other : ℕ) (call : HostCall) (words : List ℕ) (G H : Ground) (reply : Reply) (on : other < G.harts) (off : other ≢ hart)
@@ -189,10 +188,10 @@ module _ (hart other : ℕ) (call : HostCall) (words : List ℕ) (G H : Ground) 
   abbrev answered : List ℕ
   answered = set words (answered_word G.pages other) (get_or words (answered_word G.pages other) 0 + 1)
 
-  pub other_hart : Called hart call words answered G H reply → ⊥
+  pub other_hart : Called hart (λ S. rule S hart call) words answered G H reply → ⊥
   other_hart called = answered_alone G.pages G.harts hart other words on off low called.lawful
 
-  pub served_other : IsServed hart call words answered G H reply → ⊥
+  pub served_other : Called hart (λ S. rule_of S hart call) words answered G H reply → ⊥
   served_other served = answered_alone G.pages G.harts hart other words on off low served.lawful
 
 -- ---- calls, built or not
@@ -201,7 +200,7 @@ not_supported : (hart : ℕ) (call : HostCall) (S : State) → is_built call ≡
 not_supported hart call S off = ap (λ b. first_failing (plain (not b) NotSupported ∷ (rule S hart call).checks)) off
 
 pub unbuilt : (hart : ℕ) (call : HostCall) (words : List ℕ) (G : Ground) → is_built call ≡ false
-    → IsServed hart call words words G G (only NotSupported)
+    → Called hart (λ S. rule_of S hart call) words words G G (only NotSupported)
 unbuilt hart call words G off = record {
   serves = λ S met stands. rw (not_supported hart call S off) (refl, stands);
   lawful = ([], tt, refl);
@@ -212,13 +211,13 @@ unbuilt hart call words G off = record {
 }
 
 pub done : (hart : ℕ) (call : HostCall) (words new : List ℕ) (G H : Ground) (S : State) → is_built call ≡ false → IsMet S → Stands words G S
-    → IsServed hart call words new G H (only Success) → ⊥
+    → Called hart (λ S. rule_of S hart call) words new G H (only Success) → ⊥
 done hart call words new G H S off met stands served =
     let reply : only Success ≡ reply_to S hart call = (served.serves S met stands).0 in
     other_status (only NotSupported) refl
     (reply ∙ ap (λ o. unwrap_or o (record { status = Success; value = (rule S hart call).outcome.value })) (not_supported hart call S off))
 
-pub served_refusal : (hart : ℕ) (words : List ℕ) (G : Ground) → IsServed hart (Convert 0 0) words words G G (only InvalidParam)
+pub served_refusal : (hart : ℕ) (words : List ℕ) (G : Ground) → Called hart (λ S. rule_of S hart (Convert 0 0)) words words G G (only InvalidParam)
 served_refusal hart words G = record {
   serves = λ S met stands. (refl, stands);
   lawful = ([], tt, refl);
@@ -228,5 +227,5 @@ served_refusal hart words G = record {
   size = refl;
 }
 
-pub served_word : (hart : ℕ) (call : HostCall) (rest : List ℕ) (G H : Ground) → IsServed hart call (0 ∷ rest) (1 ∷ rest) G H (only NotSupported) → ⊥
+pub served_word : (hart : ℕ) (call : HostCall) (rest : List ℕ) (G H : Ground) → Called hart (λ S. rule_of S hart call) (0 ∷ rest) (1 ∷ rest) G H (only NotSupported) → ⊥
 served_word hart call rest G H served = changed_word rest (served.refused refl).0

@@ -7,7 +7,7 @@ ghost use Rattle.cove_base.specs.declared.calls.HostCall.TheVariants.{Convert, C
 ghost use Rattle.cove_base.specs.declared.limits.TheConstants.{ENTRY_LIMIT};
 ghost use Rattle.cove_base.specs.declared.statuses.Reply.{Reply};
 ghost use Rattle.cove_base.specs.declared.statuses.Status.TheVariants.{Denied, InvalidParam, NotSupported, Success};
-ghost use Rattle.cove_model.specs.Answers.{is_built, refusal_by};
+ghost use Rattle.cove_model.specs.Answers.{is_built, refusal_by, rule_of};
 ghost use Rattle.cove_model.specs.HostCalls.{rule};
 ghost use Rattle.cove_model.specs.Owners.{AsState, Given, Host};
 ghost use Rattle.cove_model.specs.States.{State, opening};
@@ -16,7 +16,6 @@ ghost use Rattle.cove_lives.specs.CallExamples.{only, small_ground, small_script
 ghost use Rattle.cove_tvm.specs.Called.{Called, IsMet, IsReady};
 ghost use Rattle.cove_lives.specs.Examples.{nine_free};
 ghost use Rattle.cove_tvm.specs.GroundLaws.{IsNewGround};
-ghost use Rattle.cove_tvm.specs.Served.{IsServed};
 ghost use Rattle.cove_tvm.specs.Stands.{Stands};
 ghost use Rattle.cove_tvm.specs.declared.ground.Ground.{Ground};
 
@@ -42,52 +41,52 @@ pub fn worked_readiness()
 
 /// A convert of no page is refused in every state, and leaves words and ground; no refused call may change either.
 pub fn worked_refusing()
-    ensures refused { (hart : ℕ) (words : List ℕ) (G : Ground) → Called hart (Convert 0 0) words words G G (only InvalidParam) }
+    ensures refused { (hart : ℕ) (words : List ℕ) (G : Ground) → Called hart (λ S. rule S hart (Convert 0 0)) words words G G (only InvalidParam) }
     ensures another_status { (hart : ℕ) (words new : List ℕ) (G H : Ground) (S : State) → IsMet S → Stands words G S
-        → Called hart (Convert 0 0) words new G H (only Success) → ⊥ }
+        → Called hart (λ S. rule S hart (Convert 0 0)) words new G H (only Success) → ⊥ }
     ensures word_changed { (hart : ℕ) (call : HostCall) (rest : List ℕ) (G H : Ground)
-        → Called hart call (0 ∷ rest) (1 ∷ rest) G H (only Denied) → ⊥ }
+        → Called hart (λ S. rule S hart call) (0 ∷ rest) (1 ∷ rest) G H (only Denied) → ⊥ }
     ensures ground_changed { (hart : ℕ) (call : HostCall) (words new : List ℕ) (G : Ground)
-        → Called hart call words new G (record G { kicked = G.kicked + 1 }) (only Denied) → ⊥ }
+        → Called hart (λ S. rule S hart call) words new G (record G { kicked = G.kicked + 1 }) (only Denied) → ⊥ }
 {}
 
 /// A creation that leaves the TVMs is none; no call moves the count, lets a fence rise by two or answers for another hart.
 pub fn worked_accepting()
     ensures no_tvm { (hart root state : ℕ) (words new : List ℕ) (G : Ground) (S : State) (reply : Reply) → IsMet S → Stands words G S
-        → refusal_by (rule S hart (Create root state)) ≡ None → Called hart (Create root state) words new G G reply → ⊥ }
+        → refusal_by (rule S hart (Create root state)) ≡ None → Called hart (λ S. rule S hart (Create root state)) words new G G reply → ⊥ }
     ensures count { (hart : ℕ) (call : HostCall) (words : List ℕ) (G H : Ground) (reply : Reply)
         → count_word G.pages G.harts < length words
-        → Called hart call words (slice_set words (count_word G.pages G.harts) (slice_index words (count_word G.pages G.harts) + 1)) G H reply
+        → Called hart (λ S. rule S hart call) words (slice_set words (count_word G.pages G.harts) (slice_index words (count_word G.pages G.harts) + 1)) G H reply
         → ⊥ }
     ensures fence { (hart : ℕ) (call : HostCall) (words new : List ℕ) (G H : Ground) (reply : Reply)
-        → FencesWithin G.pages G.harts words 3 → epoch_in G.pages new ≡ 5 → Called hart call words new G H reply → ⊥ }
+        → FencesWithin G.pages G.harts words 3 → epoch_in G.pages new ≡ 5 → Called hart (λ S. rule S hart call) words new G H reply → ⊥ }
     ensures other_hart { (hart other : ℕ) (call : HostCall) (words : List ℕ) (G H : Ground) (reply : Reply)
         → other < G.harts → other ≢ hart → answered_word G.pages other < length words
-        → Called hart call words (slice_set words (answered_word G.pages other) (slice_index words (answered_word G.pages other) + 1)) G H reply
+        → Called hart (λ S. rule S hart call) words (slice_set words (answered_word G.pages other) (slice_index words (answered_word G.pages other) + 1)) G H reply
         → ⊥ }
 {}
 
 /// A call that is not built is answered that it isn't supported, and leaves words and ground; no other answer serves.
 pub fn worked_serving()
     ensures unbuilt { (hart : ℕ) (call : HostCall) (words : List ℕ) (G : Ground)
-        → is_built call ≡ false → IsServed hart call words words G G (only NotSupported) }
+        → is_built call ≡ false → Called hart (λ S. rule_of S hart call) words words G G (only NotSupported) }
     ensures done { (hart : ℕ) (call : HostCall) (words new : List ℕ) (G H : Ground) (S : State)
-        → is_built call ≡ false → IsMet S → Stands words G S → IsServed hart call words new G H (only Success) → ⊥ }
-    ensures refused { (hart : ℕ) (words : List ℕ) (G : Ground) → IsServed hart (Convert 0 0) words words G G (only InvalidParam) }
+        → is_built call ≡ false → IsMet S → Stands words G S → Called hart (λ S. rule_of S hart call) words new G H (only Success) → ⊥ }
+    ensures refused { (hart : ℕ) (words : List ℕ) (G : Ground) → Called hart (λ S. rule_of S hart (Convert 0 0)) words words G G (only InvalidParam) }
     ensures word_changed { (hart : ℕ) (call : HostCall) (rest : List ℕ) (G H : Ground)
-        → IsServed hart call (0 ∷ rest) (1 ∷ rest) G H (only NotSupported) → ⊥ }
+        → Called hart (λ S. rule_of S hart call) (0 ∷ rest) (1 ∷ rest) G H (only NotSupported) → ⊥ }
 {}
 
 /// No call that is served moves the count, lets a fence rise by two or answers for another hart.
 pub fn worked_bounds()
     ensures count { (hart : ℕ) (call : HostCall) (words : List ℕ) (G H : Ground) (reply : Reply)
         → count_word G.pages G.harts < length words
-        → IsServed hart call words (slice_set words (count_word G.pages G.harts) (slice_index words (count_word G.pages G.harts) + 1)) G H reply
+        → Called hart (λ S. rule_of S hart call) words (slice_set words (count_word G.pages G.harts) (slice_index words (count_word G.pages G.harts) + 1)) G H reply
         → ⊥ }
     ensures fence { (hart : ℕ) (call : HostCall) (words new : List ℕ) (G H : Ground) (reply : Reply)
-        → FencesWithin G.pages G.harts words 3 → epoch_in G.pages new ≡ 5 → IsServed hart call words new G H reply → ⊥ }
+        → FencesWithin G.pages G.harts words 3 → epoch_in G.pages new ≡ 5 → Called hart (λ S. rule_of S hart call) words new G H reply → ⊥ }
     ensures other_hart { (hart other : ℕ) (call : HostCall) (words : List ℕ) (G H : Ground) (reply : Reply)
         → other < G.harts → other ≢ hart → answered_word G.pages other < length words
-        → IsServed hart call words (slice_set words (answered_word G.pages other) (slice_index words (answered_word G.pages other) + 1)) G H reply
+        → Called hart (λ S. rule_of S hart call) words (slice_set words (answered_word G.pages other) (slice_index words (answered_word G.pages other) + 1)) G H reply
         → ⊥ }
 {}

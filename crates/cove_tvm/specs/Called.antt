@@ -2,11 +2,10 @@
 use Rattle.std.specs.Prelude.{◌≡◌, ℕ, ◌+◌, ◌-◌, ◌<◌, ◌≤◌, false, List, length, slice_index}
 use Rattle.cove_base.specs.Places.{count_word}
 use Rattle.cove_base.specs.Statuses.{is_success}
-use Rattle.cove_base.specs.declared.calls.HostCall.{HostCall}
 use Rattle.cove_base.specs.declared.limits.TheConstants.{ENTRY_LIMIT, HART_LIMIT, PAGE_LIMIT}
 use Rattle.cove_base.specs.declared.statuses.Reply.{Reply}
 use Rattle.cove_model.specs.Answers.{reply_by, state_after_rule}
-use Rattle.cove_model.specs.HostCalls.{rule}
+use Rattle.cove_model.specs.HostCalls.{Rule}
 use Rattle.cove_model.specs.LawfulStores.{MakesLawful}
 use Rattle.cove_model.specs.Orderly.{IsOrderly}
 use Rattle.cove_model.specs.Seated.{IsSeated}
@@ -32,12 +31,12 @@ pub record IsReady (words : List ℕ) (G : Ground) : Type 0 where
   pub met : IsMet state
   pub stands : Stands words G state
 
--- Whatever state words and ground stood for, the call is answered as in that state, and they stand for the state after it; its
--- stores are lawful; a refused call changes nothing; the number of words and the count stay, and each fence rises by one at most.
-pub record Called (hart : ℕ) (call : HostCall) (words new : List ℕ) (G H : Ground) (reply : Reply) : Type 0 where
+-- A call that a hart makes, by the rule that it has in each state. Whatever state words and ground stood for, it is answered as
+-- its rule says there, and they stand for the state after it; its stores are lawful; a refused call changes nothing; the number
+-- of words and the count stay, and each fence rises by one at most.
+pub record Called (hart : ℕ) (rule_in : State → Rule) (words new : List ℕ) (G H : Ground) (reply : Reply) : Type 0 where
   pub serves :
-      (S : State) → IsMet S → Stands words G S
-      → (reply ≡ reply_by (rule S hart call)) × Stands new H (state_after_rule S (rule S hart call))
+      (S : State) → IsMet S → Stands words G S → (reply ≡ reply_by (rule_in S)) × Stands new H (state_after_rule S (rule_in S))
   pub lawful : MakesLawful G.pages G.harts hart words words new
   pub refused : is_success reply.status ≡ false → (new ≡ words) × (H ≡ G)
   pub fences : (most : ℕ) → FencesWithin G.pages G.harts words most → FencesWithin G.pages G.harts new (most + 1)

@@ -15,7 +15,6 @@ pub mod NewTvms
 pub mod NewVcpus
 pub mod OneTvm
 pub mod PrivateRuns
-pub mod Served
 pub mod SharedRuns
 pub mod Slots
 pub mod Stands

@@ -4,7 +4,7 @@
 //! [`Tvms`] is every TVM that was created, by its number; all room is taken at the start. The main definition of this crate
 //! is `Stands` (specs/Stands): words and ground stand for a state, said by index for each page, each guest page, each slot of
 //! a TVM's tables and each vCPU. [`opening_law`] says that it holds at the start, and [`frame_law`] what leaves it. What a
-//! call of the host needs and promises over that relation is said here too (specs/Called, specs/Served), and [`HostSide`] is
+//! call of the host needs and promises over that relation is said here too (specs/Called), and [`HostSide`] is
 //! the trait of what answers calls. It stands on the definitions of `cove_model`, on the tables over words of `cove_stage2`,
 //! and on regions, registers and interrupt files.
 

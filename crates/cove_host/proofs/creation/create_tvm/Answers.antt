@@ -1,7 +1,6 @@
 use Rattle.std.proofs.Common.{ℕ, ◌/◌, ◌∙◌, List, ap}
 use Rattle.cove_base.specs.PageWords.{given}
 use Rattle.cove_base.specs.Stores.{fills, stored}
-use Rattle.cove_base.specs.declared.calls.HostCall.TheVariants.{Create}
 use Rattle.cove_base.specs.declared.numbers.Role.TheVariants.{Root, State}
 use Rattle.cove_host.proofs.Creating.{creates, refuses, root_allowed, state_allowed}
 use Rattle.cove_host.proofs.creation.create_tvm.Goals as goal
@@ -23,7 +22,7 @@ give-requires-in-Ok-clause-allowed g c =
 pub returns-in-Err-clause-called : goal.returns-in-Err-clause-called
 returns-in-Err-clause-called g c =
     rw c.in-Err.ensures.unchanged.words
-    (refuses c.args.h.0 (Create c.args.root c.args.state) _ _ c.in-Err.reply (c.in-Err.ensures.told c.args.h.0))
+    (refuses _ _ _ _ _ (c.in-Err.ensures.told c.args.h.0))
 
 pub returns-in-Ok-clause-called : goal.returns-in-Ok-clause-called
 returns-in-Ok-clause-called g c =

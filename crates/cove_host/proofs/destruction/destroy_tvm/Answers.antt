@@ -1,4 +1,3 @@
-use Rattle.cove_base.specs.declared.calls.HostCall.TheVariants.{Destroy}
 use Rattle.cove_host.proofs.Creating.{refuses}
 use Rattle.cove_host.proofs.Ending.{destroys_tvm, may_end}
 use Rattle.cove_host.proofs.destruction.destroy_tvm.Goals as goal
@@ -6,7 +5,7 @@ use Rattle.cove_host.proofs.destruction.destroy_tvm.Goals as goal
 pub returns-in-Err-clause-called : goal.returns-in-Err-clause-called
 returns-in-Err-clause-called g c =
     rw c.in-Err.ensures.unchanged.words
-    (refuses c.args.h.0 (Destroy c.args.t) _ _ c.in-Err.reply (c.in-Err.ensures.told c.args.h.0))
+    (refuses _ _ _ _ _ (c.in-Err.ensures.told c.args.h.0))
 
 pub returns-in-Ok-clause-called : goal.returns-in-Ok-clause-called
 returns-in-Ok-clause-called g c =

@@ -1,11 +1,10 @@
-use Rattle.cove_base.specs.declared.calls.HostCall.TheVariants.{Finalize}
 use Rattle.cove_host.proofs.Creating.{refuses}
 use Rattle.cove_host.proofs.Finalizing.{finalizes}
 use Rattle.cove_host.proofs.finalization.finalize_tvm.Goals as goal
 
 pub returns-in-Err-clause-called : goal.returns-in-Err-clause-called
 returns-in-Err-clause-called g c =
-    refuses c.args.h.0 (Finalize c.args.t c.args.pc c.args.arg) _ _ c.in-Err.reply (λ S stands. c.in-Err.ensures.told _ c.args.h.0 c.args.arg S stands)
+    refuses _ _ _ _ _ (λ S stands. c.in-Err.ensures.told _ c.args.h.0 c.args.arg S stands)
 
 pub returns-in-Ok-clause-called : goal.returns-in-Ok-clause-called
 returns-in-Ok-clause-called g c =

@@ -1,4 +1,3 @@
-use Rattle.cove_base.specs.declared.calls.HostCall.TheVariants.{Measured}
 use Rattle.cove_host.proofs.Creating.{refuses}
 use Rattle.cove_host.proofs.FilledFrames.{copies_are}
 use Rattle.cove_host.proofs.GrowingMeasured.{adds_measured, apart, measures}
@@ -29,7 +28,7 @@ give_copies-requires-clause-filled g c =
 pub returns-in-Err-clause-called : goal.returns-in-Err-clause-called
 returns-in-Err-clause-called g c =
     rw c.in-Err.ensures.unchanged.words
-    (refuses c.args.h.0 (Measured c.args.t c.args.src c.args.dst c.args.n c.args.gpa) _ _ c.in-Err.reply (c.in-Err.ensures.told c.args.h.0))
+    (refuses _ _ _ _ _ (c.in-Err.ensures.told c.args.h.0))
 
 pub map_measured-requires-clause-may : goal.map_measured-requires-clause-may
 map_measured-requires-clause-may g c = λ tvm live.

@@ -1,4 +1,3 @@
-use Rattle.cove_base.specs.declared.calls.HostCall.TheVariants.{Convert}
 use Rattle.cove_host.proofs.Converting.{convert_accepted, convert_allowed}
 use Rattle.cove_host.proofs.Creating.{refuses}
 use Rattle.cove_host.proofs.owners.convert_pages.Goals as goal
@@ -16,7 +15,7 @@ set_all-requires-clause-allowed g c =
 pub returns-in-Err-clause-called : goal.returns-in-Err-clause-called
 returns-in-Err-clause-called g c =
     rw c.in-Err.ensures.unchanged.words
-    (refuses c.args.h.0 (Convert c.args.base c.args.n) _ _ c.in-Err.reply (c.in-Err.ensures.told c.args.h.0))
+    (refuses _ _ _ _ _ (c.in-Err.ensures.told c.args.h.0))
 
 pub returns-in-Ok-clause-called : goal.returns-in-Ok-clause-called
 returns-in-Ok-clause-called g c =

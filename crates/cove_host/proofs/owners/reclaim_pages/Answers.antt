@@ -1,4 +1,3 @@
-use Rattle.cove_base.specs.declared.calls.HostCall.TheVariants.{Reclaim}
 use Rattle.cove_host.proofs.Creating.{refuses}
 use Rattle.cove_host.proofs.FilledFrames.{zeroed_is, zeros_are}
 use Rattle.cove_host.proofs.Reclaiming.{reclaim_accepted, reclaim_allowed}
@@ -17,7 +16,7 @@ give_back-requires-clause-zeros g c = zeros_are _ _ _ _ c.zero_all.ensures
 pub returns-in-Err-clause-called : goal.returns-in-Err-clause-called
 returns-in-Err-clause-called g c =
     rw c.in-Err.ensures.unchanged.words
-    (refuses c.args.h.0 (Reclaim c.args.base c.args.n) _ _ c.in-Err.reply (c.in-Err.ensures.told c.args.h.0))
+    (refuses _ _ _ _ _ (c.in-Err.ensures.told c.args.h.0))
 
 pub returns-in-Ok-clause-called : goal.returns-in-Ok-clause-called
 returns-in-Ok-clause-called g c =

@@ -1,11 +1,10 @@
-use Rattle.cove_base.specs.declared.calls.HostCall.TheVariants.{Region}
 use Rattle.cove_host.proofs.Creating.{refuses}
 use Rattle.cove_host.proofs.RegionProofs.{adds_region}
 use Rattle.cove_host.proofs.regions.add_memory_region.Goals as goal
 
 pub returns-in-Err-clause-called : goal.returns-in-Err-clause-called
 returns-in-Err-clause-called g c =
-    refuses c.args.h.0 (Region c.args.t c.args.gpa c.args.len) _ _ c.in-Err.reply (λ S stands. c.in-Err.ensures.told _ c.args.h.0 S stands)
+    refuses _ _ _ _ _ (λ S stands. c.in-Err.ensures.told _ c.args.h.0 S stands)
 
 pub returns-in-Ok-clause-called : goal.returns-in-Ok-clause-called
 returns-in-Ok-clause-called g c =

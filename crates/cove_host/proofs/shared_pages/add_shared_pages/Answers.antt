@@ -1,4 +1,3 @@
-use Rattle.cove_base.specs.declared.calls.HostCall.TheVariants.{Shared}
 use Rattle.cove_host.proofs.Creating.{refuses}
 use Rattle.cove_host.proofs.GrowingShared.{adds_shared, raise_allowed, shared_maps}
 use Rattle.cove_host.proofs.shared_pages.add_shared_pages.Goals as goal
@@ -21,7 +20,7 @@ map_pages-requires g c = λ tvm live.
 pub returns-in-Err-clause-called : goal.returns-in-Err-clause-called
 returns-in-Err-clause-called g c =
     rw c.in-Err.ensures.unchanged.words
-    (refuses c.args.h.0 (Shared c.args.t c.args.base c.args.n c.args.gpa) _ _ c.in-Err.reply (c.in-Err.ensures.told c.args.h.0))
+    (refuses _ _ _ _ _ (c.in-Err.ensures.told c.args.h.0))
 
 pub returns-in-Ok-clause-called : goal.returns-in-Ok-clause-called
 returns-in-Ok-clause-called g c =

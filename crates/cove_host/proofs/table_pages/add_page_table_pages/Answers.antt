@@ -1,6 +1,5 @@
 use Rattle.std.proofs.Common.{ℕ, ◌∙◌, List, ap}
 use Rattle.cove_base.specs.Stores.{stored}
-use Rattle.cove_base.specs.declared.calls.HostCall.TheVariants.{Tables}
 use Rattle.cove_host.proofs.Creating.{refuses}
 use Rattle.cove_host.proofs.TableProofs.{adds_tables, pool_room, stores_allowed}
 use Rattle.cove_tvm.specs.MoreTables.{tables_stores}
@@ -21,7 +20,7 @@ add-requires-clause-room g c =
 pub returns-in-Err-clause-called : goal.returns-in-Err-clause-called
 returns-in-Err-clause-called g c =
     rw c.in-Err.ensures.unchanged.words
-    (refuses c.args.h.0 (Tables c.args.t c.args.base c.args.n) _ _ c.in-Err.reply (c.in-Err.ensures.told c.args.h.0))
+    (refuses _ _ _ _ _ (c.in-Err.ensures.told c.args.h.0))
 
 pub returns-in-Ok-clause-called : goal.returns-in-Ok-clause-called
 returns-in-Ok-clause-called g c =

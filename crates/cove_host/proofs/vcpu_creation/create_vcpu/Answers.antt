@@ -1,6 +1,5 @@
 use Rattle.std.proofs.Common.{ℕ, ◌∙◌, List, ap}
 use Rattle.cove_base.specs.Stores.{stored}
-use Rattle.cove_base.specs.declared.calls.HostCall.TheVariants.{Vcpu}
 use Rattle.cove_host.proofs.Adding.{adds_vcpu, store_allowed}
 use Rattle.cove_host.proofs.Creating.{refuses}
 use Rattle.cove_tvm.specs.NewVcpus.{vcpu_stores}
@@ -16,7 +15,7 @@ give-requires-clause-allowed g c =
 pub returns-in-Err-clause-called : goal.returns-in-Err-clause-called
 returns-in-Err-clause-called g c =
     rw c.in-Err.ensures.unchanged.words
-    (refuses c.args.h.0 (Vcpu c.args.t c.args.v c.args.state) _ _ c.in-Err.reply (c.in-Err.ensures.told c.args.h.0))
+    (refuses _ _ _ _ _ (c.in-Err.ensures.told c.args.h.0))
 
 pub returns-in-Ok-clause-called : goal.returns-in-Ok-clause-called
 returns-in-Ok-clause-called g c =
