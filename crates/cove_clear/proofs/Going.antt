@@ -137,16 +137,14 @@ module _ (allows : List ℕ → ℕ → ℕ → Type 0) (pages root : ℕ) (word
   -- and what it maps
   pub maps_there : (g place word page : ℕ) (shared kind : Bool) → g < 2 ^ 29 → StandsAt pages root words (InLast g) place → word ≡ get_or words place 0
       → page < 2 ^ 16 → Names page shared word → shared ≡ kind → MapsThere pages root words place page kind
-  maps_there g place word page shared kind low at is small named same = (
-    small,
-    (
-      g,
-      low,
-      at,
-      subst (λ s. Names page s (leaf_at pages root words g)) same
-          (subst (Names page shared) (is ∙ sym (entry-stands pages root words (InLast g) place at)) named),
-    ),
-  )
+  maps_there g place word page shared kind low at is small named same = record {
+    small = small;
+    guest = g;
+    low = low;
+    stands = at;
+    names = subst (λ s. Names page s (leaf_at pages root words g)) same
+        (subst (Names page shared) (is ∙ sym (entry-stands pages root words (InLast g) place at)) named);
+  }
 
   -- the word of a link that is there names a table
   pub link_word : (a : Slot) (place word : ℕ) → IsLinkSlot a → StandsAt pages root words a place → word ≡ get_or words place 0 → word ≢ 0
@@ -234,27 +232,24 @@ module _ (pages root : ℕ) (words pool : List ℕ) (place : ℕ) where
 
   -- a leaf of the TVM's memory goes
   module _ (page : ℕ) (maps : MapsThere pages root words place page false) where
-    abbrev guest : ℕ
-    guest = maps.1.0
-
     private_off : (p leaf : ℕ) → Names page false leaf → is_shared_leaf p leaf ≡ false
     private_off p leaf (ByPresent is) = let word : leaf ≡ 1024 * page + 223 = is in not_shared p leaf 223 (omega arith) refl
     private_off p leaf (ByBlocked since is) = let word : leaf ≡ 1024 * page + 223 + 255 + 2 ^ 26 * since = is in not_shared p leaf 478 (omega arith) refl
 
     module _ (harts t : ℕ) (leaving : IsBeingCleared pages harts words t root pool) where
       pub own_on : page < pages
-      own_on = ((leaving.clearable.owned t root leaving.clearable.root_is).backed guest page false maps.1.1 maps.0 maps.1.3).0
+      own_on = ((leaving.clearable.owned t root leaving.clearable.root_is).backed maps.guest page false maps.low maps.small maps.names).0
 
       pub own_fits : place < length words
-      own_fits = stands-within pages root words leaving.clearable.tree (InLast guest) place maps.1.1 maps.1.2
+      own_fits = stands-within pages root words leaving.clearable.tree (InLast maps.guest) place maps.low maps.stands
 
       pub own_lawful : (hart : ℕ) (last : List ℕ) → IsLawful pages harts hart last words place 0
-      own_lawful = zero_lawful pages harts words t root leaving.clearable (InLast guest) place maps.1.1 maps.1.2
+      own_lawful = zero_lawful pages harts words t root leaving.clearable (InLast maps.guest) place maps.low maps.stands
 
       own_gathered : AreGathered pages (set words place 0) t root (pool ++ page ∷ [])
       own_gathered =
-          taken_gathered pages harts words t root leaving.clearable (InLast guest) place maps.1.1 maps.1.2 (no_under guest) pool leaving.gathered
-          page own_on (inr (guest, refl, maps.1.1, maps.1.3)) (λ link. absurd link)
+          taken_gathered pages harts words t root leaving.clearable (InLast maps.guest) place maps.low maps.stands (no_under maps.guest) pool leaving.gathered
+          page own_on (inr (maps.guest, refl, maps.low, maps.names)) (λ link. absurd link)
 
       pub own_room : length pool < pages
       own_room =
@@ -264,59 +259,56 @@ module _ (pages root : ℕ) (words pool : List ℕ) (place : ℕ) where
 
       pub own_links : KeepsLinkSlots pages root words (set words place 0)
       own_links b link =
-          next_other pages harts words t root leaving.clearable (InLast guest) place maps.1.1 maps.1.2 (no_under guest) b (link-slot b link) (λ e. subst IsLinkSlot e link)
+          next_other pages harts words t root leaving.clearable (InLast maps.guest) place maps.low maps.stands (no_under maps.guest) b (link-slot b link) (λ e. subst IsLinkSlot e link)
 
       pub own_goes : Goes pages harts t root words pool (set words place 0) (pool ++ page ∷ [])
       own_goes = record {
         leaving = record {
-          clearable = next_open pages harts words t root leaving.clearable (InLast guest) place maps.1.1 maps.1.2;
+          clearable = next_open pages harts words t root leaving.clearable (InLast maps.guest) place maps.low maps.stands;
           gathered = own_gathered;
-          counted = counts_stay pages harts words t root leaving.clearable (InLast guest) place maps.1.1 maps.1.2
-              (λ p. once_is p (leaf_at pages root words guest) false (private_off p (leaf_at pages root words guest) maps.1.3)) leaving.counted;
+          counted = counts_stay pages harts words t root leaving.clearable (InLast maps.guest) place maps.low maps.stands
+              (λ p. once_is p (leaf_at pages root words maps.guest) false (private_off p (leaf_at pages root words maps.guest) maps.names)) leaving.counted;
         };
-        clears = next_clears pages harts words t root leaving.clearable (InLast guest) place maps.1.1 maps.1.2;
+        clears = next_clears pages harts words t root leaving.clearable (InLast maps.guest) place maps.low maps.stands;
         lawful = λ hart last. ((place, 0) ∷ [], (own_lawful hart last, tt), refl);
       }
 
   -- a leaf of a page of the host's goes, and then the page's count is lower
   module _ (page : ℕ) (maps : MapsThere pages root words place page true) where
-    abbrev shared_guest : ℕ
-    shared_guest = maps.1.0
-
     abbrev cleared : List ℕ
     cleared = set words place 0
 
     shares_by : (p leaf : ℕ) → Names page true leaf → is_shared_leaf p leaf ≡ eqb page p
-    shares_by p leaf (ByPresent is) = let word : leaf ≡ 1024 * page + 215 = is in let small = maps.0 in is_shared p page leaf 215 (omega arith) refl (omega arith)
+    shares_by p leaf (ByPresent is) = let word : leaf ≡ 1024 * page + 215 = is in let small = maps.small in is_shared p page leaf 215 (omega arith) refl (omega arith)
     shares_by p leaf (ByBlocked since is) =
-        let word : leaf ≡ 1024 * page + 215 + 255 + 2 ^ 26 * since = is in let small = maps.0 in is_shared p page leaf 470 (omega arith) refl (omega arith)
+        let word : leaf ≡ 1024 * page + 215 + 255 + 2 ^ 26 * since = is in let small = maps.small in is_shared p page leaf 470 (omega arith) refl (omega arith)
 
     module _ (harts t : ℕ) (leaving : IsBeingCleared pages harts words t root pool) where
       behind : (page < pages) × ((count : ℕ) × (0 < count) × (get_or words page 0 ≡ host count))
-      behind = (leaving.clearable.owned t root leaving.clearable.root_is).backed shared_guest page true maps.1.1 maps.0 maps.1.3
+      behind = (leaving.clearable.owned t root leaving.clearable.root_is).backed maps.guest page true maps.low maps.small maps.names
 
       pub shared_on : page < pages
       shared_on = behind.0
 
       pub shared_fits : place < length words
-      shared_fits = stands-within pages root words leaving.clearable.tree (InLast shared_guest) place maps.1.1 maps.1.2
+      shared_fits = stands-within pages root words leaving.clearable.tree (InLast maps.guest) place maps.low maps.stands
 
       pub shared_lawful : (hart : ℕ) (last : List ℕ) → IsLawful pages harts hart last words place 0
-      shared_lawful = zero_lawful pages harts words t root leaving.clearable (InLast shared_guest) place maps.1.1 maps.1.2
+      shared_lawful = zero_lawful pages harts words t root leaving.clearable (InLast maps.guest) place maps.low maps.stands
 
       shared_open : IsClearable pages harts cleared t root
-      shared_open = next_open pages harts words t root leaving.clearable (InLast shared_guest) place maps.1.1 maps.1.2
+      shared_open = next_open pages harts words t root leaving.clearable (InLast maps.guest) place maps.low maps.stands
 
       -- the count in the page word, and what it becomes
       still : get_or cleared page 0 ≡ host behind.1.0
-      still = page_stays pages harts words t root leaving.clearable (InLast shared_guest) place maps.1.1 maps.1.2 page shared_on ∙ behind.1.2
+      still = page_stays pages harts words t root leaving.clearable (InLast maps.guest) place maps.low maps.stands page shared_on ∙ behind.1.2
 
       one_less : shared_leaves pages cleared page + 1 ≡ behind.1.0
       one_less =
           let count = leaving.counted page behind.1.0 shared_on behind.1.2 in
-          let step = next_shares pages harts words t root leaving.clearable (InLast shared_guest) place maps.1.1 maps.1.2 page in
-          let once : shared_once page (leaf_at pages root words shared_guest) ≡ 1 =
-          once_is page (leaf_at pages root words shared_guest) true (shares_by page (leaf_at pages root words shared_guest) maps.1.3 ∙ eq-eqb page page refl) in
+          let step = next_shares pages harts words t root leaving.clearable (InLast maps.guest) place maps.low maps.stands page in
+          let once : shared_once page (leaf_at pages root words maps.guest) ≡ 1 =
+          once_is page (leaf_at pages root words maps.guest) true (shares_by page (leaf_at pages root words maps.guest) maps.names ∙ eq-eqb page page refl) in
           omega arith
 
       pub count_word : get_or cleared page 0 ≡ 8 * (shared_leaves pages cleared page) + 8
@@ -337,35 +329,35 @@ module _ (pages root : ℕ) (words pool : List ℕ) (place : ℕ) where
       pub shared_empty : get_or lowered place 0 ≡ 0
       shared_empty =
           let on = shared_on in
-          let past = place_past (InLast shared_guest) maps.1.1 maps.1.2 harts t leaving in
+          let past = place_past (InLast maps.guest) maps.low maps.stands harts t leaving in
           get_or-set_other cleared page place (host (shared_leaves pages cleared page)) 0 (omega arith) ∙ get_or-set_same words place 0 0 shared_fits
 
       pub shared_links : KeepsLinkSlots pages root words lowered
       shared_links b link =
           link_same pages harts cleared t root shared_open page behind.1.0 (shared_leaves pages cleared page) shared_on still refl b link
-          ∙ next_other pages harts words t root leaving.clearable (InLast shared_guest) place maps.1.1 maps.1.2 (no_under shared_guest) b (link-slot b link) (λ e. subst IsLinkSlot e link)
+          ∙ next_other pages harts words t root leaving.clearable (InLast maps.guest) place maps.low maps.stands (no_under maps.guest) b (link-slot b link) (λ e. subst IsLinkSlot e link)
 
       pub shared_goes : Goes pages harts t root words pool lowered pool
       shared_goes = record {
         leaving = record {
           clearable = now_open pages harts cleared t root shared_open page behind.1.0 (shared_leaves pages cleared page) shared_on still refl;
           gathered = now_gathered pages harts cleared t root shared_open page behind.1.0 (shared_leaves pages cleared page) shared_on still refl pool
-              (shared_gathered pages harts words t root leaving.clearable (InLast shared_guest) place maps.1.1 maps.1.2 (no_under shared_guest) pool leaving.gathered
-              shared_guest page refl maps.1.1 maps.0 maps.1.3);
+              (shared_gathered pages harts words t root leaving.clearable (InLast maps.guest) place maps.low maps.stands (no_under maps.guest) pool leaving.gathered
+              maps.guest page refl maps.low maps.small maps.names);
           counted = now_counted pages harts cleared t root shared_open page behind.1.0 (shared_leaves pages cleared page) shared_on still refl others;
         };
         clears = clears_on pages words cleared lowered t
-            (next_clears pages harts words t root leaving.clearable (InLast shared_guest) place maps.1.1 maps.1.2)
+            (next_clears pages harts words t root leaving.clearable (InLast maps.guest) place maps.low maps.stands)
             (now_clears pages harts cleared t root shared_open page behind.1.0 (shared_leaves pages cleared page) shared_on still refl);
         lawful = λ hart last.
             ((place, 0) ∷ (page, host (shared_leaves pages cleared page)) ∷ [], (shared_lawful hart last, (lower_lawful hart last, tt)), refl);
       } where
         others : (p count : ℕ) → p < pages → p ≢ page → get_or cleared p 0 ≡ host count → count ≡ shared_leaves pages cleared p
         others p count on off is =
-            let was = leaving.counted p count on (sym (page_stays pages harts words t root leaving.clearable (InLast shared_guest) place maps.1.1 maps.1.2 p on) ∙ is) in
-            let step = next_shares pages harts words t root leaving.clearable (InLast shared_guest) place maps.1.1 maps.1.2 p in
-            let none : shared_once p (leaf_at pages root words shared_guest) ≡ 0 =
-            once_is p (leaf_at pages root words shared_guest) false (shares_by p (leaf_at pages root words shared_guest) maps.1.3 ∙ ne_eqb page p (λ e. off (sym e))) in
+            let was = leaving.counted p count on (sym (page_stays pages harts words t root leaving.clearable (InLast maps.guest) place maps.low maps.stands p on) ∙ is) in
+            let step = next_shares pages harts words t root leaving.clearable (InLast maps.guest) place maps.low maps.stands p in
+            let none : shared_once p (leaf_at pages root words maps.guest) ≡ 0 =
+            once_is p (leaf_at pages root words maps.guest) false (shares_by p (leaf_at pages root words maps.guest) maps.names ∙ ne_eqb page p (λ e. off (sym e))) in
             omega arith
 
 -- at the start of a loop

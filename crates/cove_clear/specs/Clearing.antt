@@ -98,10 +98,13 @@ LinksEmpty pages root words place page =
     (a : Slot) × IsLinkSlot a × StandsAt pages root words a place × (entry_at pages root words a ≡ next_table page)
     × IsEmptyTable pages words page
 
--- a leaf stands at a place and names a page
-abbrev pub MapsThere : (pages root : ℕ) (words : List ℕ) (place page : ℕ) (shared : Bool) → Type 0
-MapsThere pages root words place page shared =
-    (page < 2 ^ 16) × ((g : ℕ) × (g < 2 ^ 29) × StandsAt pages root words (InLast g) place × Names page shared (leaf_at pages root words g))
+-- the leaf of a guest page stands at a place and names a page
+pub record MapsThere (pages root : ℕ) (words : List ℕ) (place page : ℕ) (shared : Bool) : Type 0 where
+  pub small : page < 2 ^ 16
+  pub guest : ℕ
+  pub low : guest < 2 ^ 29
+  pub stands : StandsAt pages root words (InLast guest) place
+  pub names : Names page shared (leaf_at pages root words guest)
 
 -- the page that a leaf names, and whether it is the host's; no page where it is absent
 abbrev pub NamedBy : (leaf : ℕ) → Option (Page × Bool) → Type 0
