@@ -24,7 +24,7 @@ use Rattle.cove_model.specs.States.{Seat, find_cpu}
 use Rattle.cove_model.specs.TableLaw.{shared_leaves, is_shared_leaf}
 use Rattle.cove_model.specs.Tvms.{Cpu, Tvm as ModelTvm}
 use Rattle.cove_imsic.specs.FileTables.{FileTable}
-use Rattle.cove_tvm.proofs.GoneShares.{window_same}
+use Rattle.cove_tvm.proofs.KeptGround.{window_same}
 use Rattle.cove_tvm.specs.DestroyedTvms.{Destroys}
 use Rattle.cove_tvm.specs.Slots.{slot_at}
 use Rattle.cove_tvm.specs.TvmStands.{LiveStands}

@@ -7,11 +7,12 @@ use Rattle.std.specs.Prelude.{filter_map, flat_map, option_and_then, unwrap_or}
 use Rattle.cove_model.proofs.KeyedLemmas.{at_alter_other, at_alter_same}
 use Rattle.cove_model.specs.Keyed.{at}
 use Rattle.cove_model.specs.Mappings.{mapping_of, own_words}
-use Rattle.cove_model.specs.Owners.{AsRoot, AsState, AsTable, AsVcpu, AsData, Converting, Free, Given, Host, Owner, page_at}
+use Rattle.cove_model.specs.Owners.{page_at}
 use Rattle.cove_model.specs.States.{State, find_tvm, on_tvm, shown_page}
 use Rattle.cove_model.specs.Tvms.{Tvm as ModelTvm, new_tvm}
 use Rattle.cove_model.specs.WordLaws.{Stand}
-use Rattle.cove_model.specs.WordsStand.{FrameStands, FramesStand, PageStands, answered_in, epoch_in, maps_of, words_at}
+use Rattle.cove_model.specs.WordsStand.{FramesStand, maps_of, words_at}
+use Rattle.cove_tvm.proofs.KeptGround.{frame_kept, stand_kept}
 use Rattle.cove_tvm.proofs.OneTvmProofs.{live_tvm_stands}
 use Rattle.cove_tvm.specs.Leaves.{LeavesTvm}
 use Rattle.cove_tvm.specs.OneTvm.{FieldsChangeStand, KeepsMappings}
@@ -60,41 +61,14 @@ module _ (S : State) (t : ℕ) (how : ModelTvm → ModelTvm) (keeps : KeepsMappi
     | inr other ↦ ap (words_by u g) (at_alter_other (λ tvm. tvm.number) u t how keeps.number other S.tvms)
   ]
 
-  frame_changed : (frame : List ℕ) (o : Owner) → FrameStands S frame o → FrameStands (on_tvm t how S) frame o
-  frame_changed frame (Host words) stands = stands
-  frame_changed frame (Converting held waiting words) stands = stands
-  frame_changed frame Free stands = tt
-  frame_changed frame (Given u AsRoot) stands = tt
-  frame_changed frame (Given u AsState) stands = tt
-  frame_changed frame (Given u AsTable) stands = tt
-  frame_changed frame (Given u AsVcpu) stands = tt
-  frame_changed frame (Given u (AsData g)) stands = words_changed u g ∙ stands
-
   pub frames_changed : (frames : List (List ℕ)) → FramesStand frames S → FramesStand frames (on_tvm t how S)
   frames_changed frames stands = record {
     count = stands.count;
-    frame = λ p on. frame_changed (get_or frames p []) (page_at S.pages p) (stands.frame p on);
+    frame = λ p on. frame_kept S (on_tvm t how S) (get_or frames p []) (page_at S.pages p) (λ u g is. words_changed u g ∙ is) (stands.frame p on);
   }
 
   pub words_stand_still : (pages harts : ℕ) (words : List ℕ) → Stand pages harts words S → Stand pages harts words (on_tvm t how S)
-  words_stand_still pages harts words stand =
-      let old = stand.stands in
-      record {
-        stands = record {
-          size = old.size;
-          owners = record {
-            page_count = old.owners.page_count;
-            hart_count = old.owners.hart_count;
-            page = λ p on. subst (λ maps. PageStands harts (epoch_in pages words) (answered_in pages words) maps (get_or words p 0) (page_at S.pages p))
-                (sym (maps_changed p)) (old.owners.page p on);
-            unanswered = old.owners.unanswered;
-          };
-          tables = old.tables;
-          unused = old.unused;
-          seats = old.seats;
-        };
-        within = stand.within;
-      }
+  words_stand_still pages harts words stand = stand_kept pages harts words S (on_tvm t how S).tvms S.made maps_changed stand
 
 pub fields_change_stand : FieldsChangeStand
 fields_change_stand k words G S how old new v stands keeps live found stays own =

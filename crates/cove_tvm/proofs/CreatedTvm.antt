@@ -1,6 +1,6 @@
 -- Words and ground stand after a TVM was created, and the stores are lawful.
 use Rattle.std.proofs.Common.{◌≡◌, ◌≢◌, ℕ, suc, ◌+◌, ◌/◌, ◌%◌, ◌^◌, ◌<◌, ◌≤◌, ◌==◌, ◌⊎◌, ◌∙◌, Bool, true, false, cond, eqb, eqb-true, ltb, List, [], ◌∷◌, ◌++◌, count_by, get_or, length, length-append, Option, Some, None, refl, sym, ap, subst, inl, inr, arith}
-use Rattle.std.proofs.lemmas.Bool.{eqb-false}
+use Rattle.std.proofs.lemmas.Bool.{eq-eqb, ne_eqb}
 use Rattle.std.proofs.lemmas.List.{append-nil}
 use Rattle.std.proofs.lemmas.List.Concat.{flat_map-append}
 use Rattle.std.proofs.lemmas.Option.{none-some}
@@ -21,7 +21,7 @@ use Rattle.cove_model.specs.Answers.{effect}
 use Rattle.cove_model.specs.Keyed.{at}
 use Rattle.cove_model.specs.Mappings.{mapping_of, own_words}
 use Rattle.cove_model.specs.Orderly.{IsOrderly}
-use Rattle.cove_model.specs.Owners.{AsRoot, AsState, AsTable, AsVcpu, AsData, Converting, Free, Given, Host, Owner, change, is_free, page_at}
+use Rattle.cove_model.specs.Owners.{AsRoot, AsState, Converting, Free, Given, Host, Owner, Purpose, change, is_free, page_at}
 use Rattle.cove_model.specs.Pages.{given_to}
 use Rattle.cove_model.specs.Seated.{IsSeated}
 use Rattle.cove_model.specs.States.{State as MonitorState, find_tvm, shared_pages, shown_page}
@@ -30,7 +30,7 @@ use Rattle.cove_model.specs.WordLaws.{Stand}
 use Rattle.cove_model.specs.WordsStand.{FencesWithin, FrameStands, FramesStand, PageStands, answered_in, epoch_in, is_table, maps_of, words_at}
 use Rattle.cove_tvm.proofs.BegunTvm.{HasBegun, IsPlaced, begun_lives}
 use Rattle.cove_tvm.proofs.GivenPages.{leaves_twice, none_entered, not_found, not_given, run_leaves}
-use Rattle.cove_tvm.proofs.KeptGround.{shared_kept}
+use Rattle.cove_tvm.proofs.KeptGround.{frame_kept, shared_kept, stand_kept}
 use Rattle.cove_tvm.proofs.LiveTvms.{added_elsewhere, added_here}
 use Rattle.cove_tvm.proofs.OneTvmProofs.{one_tvm_stands}
 use Rattle.cove_tvm.proofs.OwnerCalls.{free_not_given}
@@ -47,24 +47,12 @@ use Rattle.cove_tvm.specs.declared.machines.Tvm.{Tvm}
 
 -- another number is found as before
 pub found_before : (xs : List ModelTvm) (x : ModelTvm) (u : ℕ) → x.number ≢ u → at (λ tvm. tvm.number) u (xs ++ x ∷ []) ≡ at (λ tvm. tvm.number) u xs
-found_before [] x u other = go (eqb x.number u) refl
-  where
-    go : (b : Bool) → eqb x.number u ≡ b → at (λ tvm. tvm.number) u (x ∷ []) ≡ None
-    go true e = absurd (other (eqb-true x.number u e))
-    go false e = ap (λ b. cond b (Some x) None) e
-found_before (y ∷ xs) x u other = go (eqb y.number u) refl (found_before xs x u other)
-  where
-    go : (b : Bool) → eqb y.number u ≡ b → at (λ tvm. tvm.number) u (xs ++ x ∷ []) ≡ at (λ tvm. tvm.number) u xs
-        → at (λ tvm. tvm.number) u (y ∷ (xs ++ x ∷ [])) ≡ at (λ tvm. tvm.number) u (y ∷ xs)
-    go b e same = ap (λ rest. cond (eqb y.number u) (Some y) rest) same
+found_before [] x u other = ap (λ b. cond b (Some x) None) (ne_eqb x.number u other)
+found_before (y ∷ xs) x u other = ap (cond (eqb y.number u) (Some y)) (found_before xs x u other)
 
 -- the one that was added is found under its number, where none was
 pub found_last : (xs : List ModelTvm) (x : ModelTvm) → at (λ tvm. tvm.number) x.number xs ≡ None → at (λ tvm. tvm.number) x.number (xs ++ x ∷ []) ≡ Some x
-found_last [] x none = go (eqb x.number x.number) refl
-  where
-    go : (b : Bool) → eqb x.number x.number ≡ b → at (λ tvm. tvm.number) x.number (x ∷ []) ≡ Some x
-    go true e = ap (λ b. cond b (Some x) None) e
-    go false e = absurd (eqb-false x.number x.number e refl)
+found_last [] x none = ap (λ b. cond b (Some x) None) (eq-eqb x.number x.number refl)
 found_last (y ∷ xs) x none = go (eqb y.number x.number) refl none (found_last xs x)
   where
     go : (b : Bool) → eqb y.number x.number ≡ b → cond b (Some y) (at (λ tvm. tvm.number) x.number xs) ≡ None
@@ -94,39 +82,18 @@ words_grown S t u g frame is = go (find_tvm S u) refl
 
 -- ---- frames
 
-frame_grown : (S : MonitorState) (t : ℕ) (frame : List ℕ) (o : Owner) → FrameStands S frame o → FrameStands (record S { tvms = S.tvms ++ new_tvm t ∷ [] }) frame o
-frame_grown S t frame (Host words) stands = stands
-frame_grown S t frame (Converting held waiting words) stands = stands
-frame_grown S t frame Free stands = tt
-frame_grown S t frame (Given u AsRoot) stands = tt
-frame_grown S t frame (Given u AsState) stands = tt
-frame_grown S t frame (Given u AsTable) stands = tt
-frame_grown S t frame (Given u AsVcpu) stands = tt
-frame_grown S t frame (Given u (AsData g)) stands = words_grown S t u g frame stands
+frame_given : (S : MonitorState) (t : ℕ) (purpose : Purpose) (frame : List ℕ) (o : Owner) → FrameStands S frame (Given t purpose) → FrameStands S frame o
+    → FrameStands S frame (given_to t purpose o)
+frame_given S t purpose frame (Host words) free stands = stands
+frame_given S t purpose frame (Converting held waiting words) free stands = stands
+frame_given S t purpose frame Free free stands = free
+frame_given S t purpose frame (Given u other) free stands = stands
 
-root_frame : (S : MonitorState) (t : ℕ) (frame : List ℕ) (o : Owner) → FrameStands S frame o → FrameStands S frame (given_to t AsRoot o)
-root_frame S t frame (Host words) stands = stands
-root_frame S t frame (Converting held waiting words) stands = stands
-root_frame S t frame Free stands = tt
-root_frame S t frame (Given u purpose) stands = stands
-
-state_frame : (S : MonitorState) (t : ℕ) (frame : List ℕ) (o : Owner) → FrameStands S frame o → FrameStands S frame (given_to t AsState o)
-state_frame S t frame (Host words) stands = stands
-state_frame S t frame (Converting held waiting words) stands = stands
-state_frame S t frame Free stands = tt
-state_frame S t frame (Given u purpose) stands = stands
-
-root_table : (t : ℕ) (o : Owner) → is_table (given_to t AsRoot o) ≡ false → is_table o ≡ false
-root_table t (Host words) e = refl
-root_table t (Converting held waiting words) e = refl
-root_table t Free e = refl
-root_table t (Given u purpose) e = e
-
-state_table : (t : ℕ) (o : Owner) → is_table (given_to t AsState o) ≡ false → is_table o ≡ false
-state_table t (Host words) e = refl
-state_table t (Converting held waiting words) e = refl
-state_table t Free e = refl
-state_table t (Given u purpose) e = e
+table_given : (t : ℕ) (purpose : Purpose) (o : Owner) → is_table (given_to t purpose o) ≡ false → is_table o ≡ false
+table_given t purpose (Host words) e = refl
+table_given t purpose (Converting held waiting words) e = refl
+table_given t purpose Free e = refl
+table_given t purpose (Given u other) e = e
 
 -- ---- which role a word gives
 
@@ -197,28 +164,11 @@ module _ (words : List ℕ) (ground : Ground) (S : MonitorState) (root state : �
   numbered = let room = may.room in (omega arith, omega arith)
 
   grown_stand : Stand ground.pages ground.harts words grown
-  grown_stand =
-      let old = stands.words_stand.stands in
-      record {
-        stands = record {
-          size = old.size;
-          owners = record {
-            page_count = old.owners.page_count;
-            hart_count = old.owners.hart_count;
-            page = λ p on. subst (λ maps. PageStands ground.harts (epoch_in ground.pages words) (answered_in ground.pages words) maps (get_or words p 0) (page_at S.pages p))
-                (sym (maps_grown S t p)) (old.owners.page p on);
-            unanswered = old.owners.unanswered;
-          };
-          tables = old.tables;
-          unused = old.unused;
-          seats = old.seats;
-        };
-        within = stands.words_stand.within;
-      }
+  grown_stand = stand_kept ground.pages ground.harts words S (S.tvms ++ new_tvm t ∷ []) t (maps_grown S t) stands.words_stand
 
   rooted_stand : Stand ground.pages ground.harts rooted rooted_state
   rooted_stand =
-      filled_stand ground.pages ground.harts words grown (given_to t AsRoot) first 4 (given t Root) may.root_inside (root_table t)
+      filled_stand ground.pages ground.harts words grown (given_to t AsRoot) first 4 (given t Root) may.root_inside (table_given t AsRoot)
       (λ p low high on.
       subst (λ o. PageStands ground.harts (epoch_in ground.pages words) (answered_in ground.pages words) (maps_of grown p) (given t Root) (given_to t AsRoot o))
       (sym (root_free p low high)) (numbered.0, numbered.1, refl))
@@ -229,7 +179,7 @@ module _ (words : List ℕ) (ground : Ground) (S : MonitorState) (root state : �
 
   created_stand : Stand ground.pages ground.harts created (effect S 0 (Create root state))
   created_stand =
-      filled_stand ground.pages ground.harts rooted rooted_state (given_to t AsState) place 1 (given t State) may.state_inside (state_table t)
+      filled_stand ground.pages ground.harts rooted rooted_state (given_to t AsState) place 1 (given t State) may.state_inside (table_given t AsState)
       (λ p low high on.
       let is : p ≡ place = omega arith in
       let free : page_at rooted_state.pages p ≡ Free =
@@ -244,14 +194,14 @@ module _ (words : List ℕ) (ground : Ground) (S : MonitorState) (root state : �
         ∙ sym (length_change (given_to t AsState) place 1 rooted_state.pages ∙ length_change (given_to t AsRoot) first 4 S.pages);
     frame = λ p on.
         let frame = get_or ground.memory p [] in
-        let old = frame_grown S t frame (page_at S.pages p) (stands.frames.frame p on) in
+        let old = frame_kept S (record S { tvms = S.tvms ++ new_tvm t ∷ [] }) frame (page_at S.pages p) (λ u g. words_grown S t u g frame) (stands.frames.frame p on) in
         let first_is : FrameStands grown frame (page_at rooted_state.pages p) = elim (change_cases (given_to t AsRoot) first 4 S.pages p) [
           | inl same ↦ subst (FrameStands grown frame) (sym same) old
-          | inr gives ↦ subst (FrameStands grown frame) (sym gives) (root_frame grown t frame (page_at S.pages p) old)
+          | inr gives ↦ subst (FrameStands grown frame) (sym gives) (frame_given grown t AsRoot frame (page_at S.pages p) tt old)
         ] in
         elim (change_cases (given_to t AsState) place 1 rooted_state.pages p) [
           | inl same ↦ subst (FrameStands grown frame) (sym same) first_is
-          | inr gives ↦ subst (FrameStands grown frame) (sym gives) (state_frame grown t frame (page_at rooted_state.pages p) first_is)
+          | inr gives ↦ subst (FrameStands grown frame) (sym gives) (frame_given grown t AsState frame (page_at rooted_state.pages p) tt first_is)
         ];
   }
 

@@ -1,7 +1,7 @@
 -- How often the tables of a TVM share a page, and how often its mappings do.
-use Rattle.std.proofs.Common.{◌≡◌, ◌≢◌, ℕ, suc, ◌+◌, ◌-◌, ◌*◌, ◌/◌, ◌%◌, ◌^◌, ◌<◌, ◌≤◌, ◌∙◌, ◌||◌, not, Bool, true, false, true≢false, cond, eqb, eqb-true, eq-eqb, List, [], ◌∷◌, ◌++◌, count_by, drop, get_or, length, length-set, map, min, set, take, get_or-set_other, Option, Some, None, refl, sym, ap, subst, inl, inr, ◌⊎◌, arith}
+use Rattle.std.proofs.Common.{◌≡◌, ◌≢◌, ℕ, suc, ◌+◌, ◌-◌, ◌*◌, ◌/◌, ◌%◌, ◌^◌, ◌<◌, ◌≤◌, ◌∙◌, ◌||◌, not, Bool, true, false, true≢false, cond, eqb, eqb-true, eq-eqb, List, [], ◌∷◌, ◌++◌, count_by, get_or, length, length-set, map, set, get_or-set_other, Option, Some, None, refl, sym, ap, subst, inl, inr, ◌⊎◌, arith}
 use Rattle.std.proofs.lemmas.Bool.{cases_eq, cases_lt, ne_eqb}
-use Rattle.std.proofs.lemmas.List.{get_or-drop, get_or-take, get_or_default, length-drop, length-take}
+use Rattle.std.proofs.lemmas.List.{get_or_default}
 use Rattle.std.proofs.lemmas.List.Sums.{sum_by-append, sum_by-cons}
 use Rattle.std.proofs.lemmas.Option.{none-some, same_Some}
 use Rattle.std.specs.Prelude.{Contains, filter_map, flat_map}
@@ -23,13 +23,11 @@ use Rattle.cove_model.specs.States.{Seat, shown_page}
 use Rattle.cove_model.specs.TableLaw.{is_shared_leaf, shared_leaves, shared_once}
 use Rattle.cove_model.specs.Tvms.{Backing, HostPage, OwnPage, Mapping, Standing, Blocked, Present, Tvm as ModelTvm}
 use Rattle.cove_stage2.proofs.SharedWords.{is_shared, not_shared, once_is}
+use Rattle.cove_tvm.proofs.KeptGround.{flag, window_same}
 use Rattle.cove_tvm.specs.DestroyedTvms.{Destroys}
 use Rattle.cove_tvm.specs.LeafStands.{LeafStands, StandingStands, leaf_of}
 use Rattle.cove_tvm.specs.TvmStands.{LiveStands}
 use Rattle.cove_tvm.specs.declared.machines.Tvm.{Tvm}
-
-abbrev flag : Bool → ℕ
-flag b = cond b 1 0
 
 -- how often a page is among some, and which of the host's pages mappings show
 abbrev pub times : (p : ℕ) → List ℕ → ℕ
@@ -267,40 +265,6 @@ clears pages harts root p (m ∷ ms) words size tree apart each far =
 
     far_next : (g : ℕ) → 2 ^ 29 ≤ g → at (λ (x : Mapping). x.guest) g ms ≡ None
     far_next g big = sym (other_guest g (λ e. let under = low in omega arith)) ∙ far g big
-
--- ---- words with the same shared leaves
-
-count_same : (test : ℕ → Bool) (xs ys : List ℕ) → length xs ≡ length ys → ((i : ℕ) → i < length xs → test (get_or xs i 0) ≡ test (get_or ys i 0)) → count_by test xs ≡ count_by test ys
-count_same test [] [] size same = refl
-count_same test [] (y ∷ ys) size same = absurd (omega arith)
-count_same test (x ∷ xs) [] size same = absurd (omega arith)
-count_same test (x ∷ xs) (y ∷ ys) size same =
-    let first = sum_by-cons (λ k. cond (test k) 1 0) x xs in
-    let second = sum_by-cons (λ k. cond (test k) 1 0) y ys in
-    let here = ap flag (same 0 (omega arith)) in
-    let rest = count_same test xs ys (omega arith) (λ i low. same (suc i) (omega arith)) in
-    omega arith
-
-pub window_same : (pages p : ℕ) (old new : List ℕ) → length new ≡ length old
-    → ((i : ℕ) → i < 512 * pages → is_shared_leaf p (get_or new (pages + i) 0) ≡ is_shared_leaf p (get_or old (pages + i) 0))
-    → shared_leaves pages new p ≡ shared_leaves pages old p
-window_same pages p old new size same =
-    count_same (is_shared_leaf p) (take (512 * pages) (drop pages new)) (take (512 * pages) (drop pages old)) sizes
-    (λ i h.
-    let small = low i h in
-    ap (is_shared_leaf p) (word new i small) ∙ same i small ∙ sym (ap (is_shared_leaf p) (word old i small)))
-  where
-    sizes : length (take (512 * pages) (drop pages new)) ≡ length (take (512 * pages) (drop pages old))
-    sizes =
-        length-take (512 * pages) (drop pages new)
-        ∙ ap (λ n. min (512 * pages) n) (length-drop pages new ∙ ap (λ n. n - pages) size ∙ sym (length-drop pages old))
-        ∙ sym (length-take (512 * pages) (drop pages old))
-
-    low : (i : ℕ) → i < length (take (512 * pages) (drop pages new)) → i < 512 * pages
-    low i h = omega (arith, h, length-take (512 * pages) (drop pages new))
-
-    word : (words : List ℕ) (i : ℕ) → i < 512 * pages → get_or (take (512 * pages) (drop pages words)) i 0 ≡ get_or words (pages + i) 0
-    word words i h = get_or-take (512 * pages) (drop pages words) i 0 h ∙ get_or-drop pages words i 0
 
 -- no link shares a page
 link_flag : (pages root p entry : ℕ) → IsLink pages root entry → is_shared_leaf p entry ≡ false

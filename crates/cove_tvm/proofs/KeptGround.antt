@@ -1,13 +1,15 @@
 -- Words and ground stand still after a change of owners that leaves every TVM.
-use Rattle.std.proofs.Common.{◌≡◌, ℕ, zero, suc, ◌+◌, ◌-◌, ◌*◌, ◌/◌, ◌%◌, ◌^◌, ◌<◌, ◌≤◌, ◌∙◌, false, cond, eqb, ltb, min, List, count_by, drop, get_or, length, take, Option, Some, None, refl, sym, ap, subst, arith}
-use Rattle.std.proofs.lemmas.List.{ext_get_or, get_or-drop, get_or-take, length-drop, length-take}
+use Rattle.std.proofs.Common.{◌≡◌, ℕ, zero, suc, ◌+◌, ◌-◌, ◌*◌, ◌/◌, ◌%◌, ◌^◌, ◌<◌, ◌≤◌, ◌∙◌, Bool, false, cond, eqb, ltb, min, List, [], ◌∷◌, count_by, drop, get_or, length, take, Option, Some, None, refl, sym, ap, subst, arith}
+use Rattle.std.proofs.lemmas.List.{get_or-drop, get_or-take, length-drop, length-take}
+use Rattle.std.proofs.lemmas.List.Sums.{sum_by-cons}
 use Rattle.std.proofs.lemmas.Option.{none-some, slice_get_within}
 use Rattle.cove_base.specs.Places.{epoch_word, hart_word, table_word, tvm_word}
 use Rattle.cove_base.specs.declared.limits.TheConstants.{TVM_LIMIT}
 use Rattle.cove_model.specs.Keyed.{at}
-use Rattle.cove_model.specs.Owners.{has}
-use Rattle.cove_model.specs.States.{find_tvm}
-use Rattle.cove_model.specs.WordsStand.{maps_of}
+use Rattle.cove_model.specs.Owners.{AsRoot, AsState, AsTable, AsVcpu, AsData, Converting, Free, Given, Host, Owner, has, page_at}
+use Rattle.cove_model.specs.States.{State, find_tvm}
+use Rattle.cove_model.specs.WordLaws.{Stand}
+use Rattle.cove_model.specs.WordsStand.{FrameStands, PageStands, answered_in, epoch_in, maps_of, words_at}
 use Rattle.cove_model.specs.TableLaw.{is_shared_leaf, shared_leaves}
 use Rattle.cove_model.specs.Tvms.{Tvm as ModelTvm}
 use Rattle.cove_tvm.proofs.KeptTvms.{left_tvms_stand}
@@ -39,11 +41,31 @@ leaves_each pages harts old new leaves t few = record {
       (leaves.rest (hart_word pages harts hart) (omega arith) (omega arith));
 }
 
--- and the leaves that name a page as shared
-pub shared_kept : (pages : ℕ) (old new : List ℕ) (page : ℕ) → length new ≡ length old
-    → ((place : ℕ) → pages ≤ place → place < epoch_word pages → get_or new place 0 ≡ get_or old place 0)
-    → shared_leaves pages new page ≡ shared_leaves pages old page
-shared_kept pages old new page size tables = ap (count_by (is_shared_leaf page)) same
+-- ---- words with the same shared leaves
+
+abbrev pub flag : Bool → ℕ
+flag b = cond b 1 0
+
+-- a test that passes at the same places counts as many
+count_same : (test : ℕ → Bool) (xs ys : List ℕ) → length xs ≡ length ys → ((i : ℕ) → i < length xs → test (get_or xs i 0) ≡ test (get_or ys i 0)) → count_by test xs ≡ count_by test ys
+count_same test [] [] size same = refl
+count_same test [] (y ∷ ys) size same = absurd (omega arith)
+count_same test (x ∷ xs) [] size same = absurd (omega arith)
+count_same test (x ∷ xs) (y ∷ ys) size same =
+    let first = sum_by-cons (λ k. cond (test k) 1 0) x xs in
+    let second = sum_by-cons (λ k. cond (test k) 1 0) y ys in
+    let here = ap flag (same 0 (omega arith)) in
+    let rest = count_same test xs ys (omega arith) (λ i low. same (suc i) (omega arith)) in
+    omega arith
+
+pub window_same : (pages p : ℕ) (old new : List ℕ) → length new ≡ length old
+    → ((i : ℕ) → i < 512 * pages → is_shared_leaf p (get_or new (pages + i) 0) ≡ is_shared_leaf p (get_or old (pages + i) 0))
+    → shared_leaves pages new p ≡ shared_leaves pages old p
+window_same pages p old new size same =
+    count_same (is_shared_leaf p) (take (512 * pages) (drop pages new)) (take (512 * pages) (drop pages old)) sizes
+    (λ i h.
+    let small = low i h in
+    ap (is_shared_leaf p) (word new i small) ∙ same i small ∙ sym (ap (is_shared_leaf p) (word old i small)))
   where
     sizes : length (take (512 * pages) (drop pages new)) ≡ length (take (512 * pages) (drop pages old))
     sizes =
@@ -57,9 +79,47 @@ shared_kept pages old new page size tables = ap (count_by (is_shared_leaf page))
     word : (words : List ℕ) (i : ℕ) → i < 512 * pages → get_or (take (512 * pages) (drop pages words)) i 0 ≡ get_or words (pages + i) 0
     word words i h = get_or-take (512 * pages) (drop pages words) i 0 h ∙ get_or-drop pages words i 0
 
-    same : take (512 * pages) (drop pages new) ≡ take (512 * pages) (drop pages old)
-    same = ext_get_or 0 (take (512 * pages) (drop pages new)) (take (512 * pages) (drop pages old)) sizes
-        (λ i h. let small = low i h in word new i small ∙ tables (pages + i) (omega arith) (omega arith) ∙ sym (word old i small))
+pub shared_kept : (pages : ℕ) (old new : List ℕ) (page : ℕ) → length new ≡ length old
+    → ((place : ℕ) → pages ≤ place → place < epoch_word pages → get_or new place 0 ≡ get_or old place 0)
+    → shared_leaves pages new page ≡ shared_leaves pages old page
+shared_kept pages old new page size tables =
+    window_same pages page old new size (λ i low. ap (is_shared_leaf page) (tables (pages + i) (omega arith) (omega arith)))
+
+-- ---- a state whose TVMs changed, and whose pages are mapped and filled as before
+
+pub stand_kept : (pages harts : ℕ) (words : List ℕ) (S : State) (tvms : List ModelTvm) (made : ℕ) → ((p : ℕ) → maps_of (record S { tvms = tvms; made = made }) p ≡ maps_of S p)
+    → Stand pages harts words S → Stand pages harts words (record S { tvms = tvms; made = made })
+stand_kept pages harts words S tvms made same stand =
+    let old = stand.stands in
+    record {
+      stands = record {
+        size = old.size;
+        owners = record {
+          page_count = old.owners.page_count;
+          hart_count = old.owners.hart_count;
+          page = λ p on. subst (λ maps. PageStands harts (epoch_in pages words) (answered_in pages words) maps (get_or words p 0) (page_at S.pages p)) (sym (same p))
+              (old.owners.page p on);
+          unanswered = old.owners.unanswered;
+        };
+        tables = old.tables;
+        unused = old.unused;
+        seats = old.seats;
+      };
+      within = stand.within;
+    }
+
+pub frame_kept : (S T : State) (frame : List ℕ) (o : Owner) → ((u g : ℕ) → words_at S u g ≡ Some frame → words_at T u g ≡ Some frame)
+    → FrameStands S frame o → FrameStands T frame o
+frame_kept S T frame (Host words) same stands = stands
+frame_kept S T frame (Converting held waiting words) same stands = stands
+frame_kept S T frame Free same stands = tt
+frame_kept S T frame (Given u AsRoot) same stands = tt
+frame_kept S T frame (Given u AsState) same stands = tt
+frame_kept S T frame (Given u AsTable) same stands = tt
+frame_kept S T frame (Given u AsVcpu) same stands = tt
+frame_kept S T frame (Given u (AsData g)) same stands = same u g stands
+
+-- ---- a change of owners
 
 pub owners_change_stands : OwnersChangeStands
 owners_change_stands words new ground frames S T stands keeps leaves words_stand frames_stand = record {

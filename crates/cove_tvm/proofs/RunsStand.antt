@@ -28,7 +28,7 @@ use Rattle.cove_stage2.specs.Lacked.{tables_lacked}
 use Rattle.cove_stage2.specs.MapStores.{Pages}
 use Rattle.cove_tvm.proofs.BuiltRegions.{live_stands, live_stays}
 use Rattle.cove_tvm.proofs.GivenPages.{leaves_twice}
-use Rattle.cove_tvm.proofs.KeptGround.{live_made, shared_kept}
+use Rattle.cove_tvm.proofs.KeptGround.{frame_kept, live_made, shared_kept}
 use Rattle.cove_tvm.proofs.KeptTables.{tables_kept}
 use Rattle.cove_tvm.proofs.KeptTvms.{mappings_kept}
 use Rattle.cove_tvm.proofs.MappedRuns.{behind_elsewhere, page_elsewhere}
@@ -201,14 +201,7 @@ module _ {test : Owner → Bool} {words : List ℕ} {G : Ground} {S : MonitorSta
     ]
 
     pub frame_still : (frame : List ℕ) (o : Owner) → FrameStands S frame o → FrameStands T frame o
-    frame_still frame (Host ws) stands = stands
-    frame_still frame (Converting held waiting ws) stands = stands
-    frame_still frame Free stands = tt
-    frame_still frame (Given u AsRoot) stands = tt
-    frame_still frame (Given u AsState) stands = tt
-    frame_still frame (Given u AsTable) stands = tt
-    frame_still frame (Given u AsVcpu) stands = tt
-    frame_still frame (Given u (AsData g)) stands = words_still u g frame stands
+    frame_still frame o = frame_kept S T frame o (λ u g. words_still u g frame)
 
     module _ {mid new : List ℕ} {frames registers : List (List ℕ)} (left : Pages) (ready : Prepares G.pages G.harts (suc k) (base / 4096) n shared words mid)
         (becomes : Becomes G S T (base / 4096) n shared words mid frames) (room : left.room ≡ old.pool.room)
