@@ -41,16 +41,14 @@ record Passed (words : List ℕ) (G : Ground) (S : State) (t v state : ℕ) : Ty
   given : Gives words G S t state 1
   none : find_cpu given.model v ≡ None
 
-passed : (words : List ℕ) (G : Ground) (S : State) (t v state : ℕ) (u : Unit {0}) → Stands words G S → all_checked (adding_checks S t v state) ≡ Ok u
+passed : (words : List ℕ) (G : Ground) (S : State) (t v state : ℕ) → Stands words G S → Ok tt ≡ all_checked (adding_checks S t v state)
     → Passed words G S t v state
-passed words G S t v state u stands e =
-    let all = each_passes (adding_checks S t v state) u e in
-    let from_cpu = all.1.1.1 in
-    let from_inside = from_cpu.1.1 in
-    let given = gives t state 1 stands all.0 from_inside.0 from_inside.1.0 in
+passed words G S t v state stands e =
+    let pass = each_passes (adding_checks S t v state) e in
+    let given = gives t state 1 stands (pass 0) (pass 5) (pass 6) in
     record {
       given = given;
-      none = no_cpu (find_cpu given.model v) (ap (λ x. is_some (find_cpu (unwrap_or x (new_tvm t)) v)) (sym given.found) ∙ from_cpu.0);
+      none = no_cpu (find_cpu given.model v) (ap (λ x. is_some (find_cpu (unwrap_or x (new_tvm t)) v)) (sym given.found) ∙ pass 3);
     }
 
 module _ (words : List ℕ) (G : Ground) (hart v state : ℕ) (ready : IsReady words G) where
@@ -59,7 +57,7 @@ module _ (words : List ℕ) (G : Ground) (hart v state : ℕ) (ready : IsReady w
   by_rule t S = rule S hart (VcpuCall t v state)
 
   pass : (t : ℕ) → AllPass (by_rule t) words G → (S : State) → Stands words G S → Passed words G S t v state
-  pass t told S stands = let one = told S stands in passed words G S t v state one.0 stands (sym one.1)
+  pass t told S stands = passed words G S t v state stands (told S stands)
 
   -- the page is on the board
   page_inside : (t : ℕ) → AllPass (by_rule t) words G → state / 4096 + 1 ≤ G.pages

@@ -1,7 +1,6 @@
 -- What checks in their order answer.
 use Rattle.std.proofs.Common.{◌≡◌, ◌∙◌, ℕ, zero, suc, Bool, true, false, cond, List, [], ◌∷◌, Option, Some, None, Result, Ok, Err, refl, sym, ap, arith}
 use Rattle.std.proofs.lemmas.Result.{err_from_is_err_and}
-use Rattle.std.specs.List.{AllByRecursion}
 use Rattle.std.specs.Prelude.{IsErrAnd}
 use Rattle.cove_base.specs.declared.statuses.Reply.{Reply}
 use Rattle.cove_host.specs.Checked.{all_checked, checked}
@@ -14,7 +13,7 @@ Answer = Result (Unit {0}) Reply
 abbrev tested : Bool → Reply → Answer → Answer
 tested b reply rest = cond b (Err reply) rest
 
-abbrev passed : Answer
+abbrev pub passed : Answer
 passed = Ok tt
 
 passing : (b : Bool) (reply : Reply) (rest : Answer) (u : Unit {0}) → tested b reply passed ≡ Ok u → tested b reply rest ≡ rest
@@ -25,9 +24,9 @@ failing : (b : Bool) (reply said : Reply) (rest : Answer) → tested b reply pas
 failing true reply said rest e = e
 failing false reply said rest e = absurd cc
 
-passed_first : (b : Bool) (reply : Reply) (rest : Answer) (u : Unit {0}) → tested b reply rest ≡ Ok u → (b ≡ false) × (rest ≡ Ok u)
-passed_first true reply rest u e = absurd cc
-passed_first false reply rest u e = (refl, e)
+passed_first : (b : Bool) (reply : Reply) (rest : Answer) → passed ≡ tested b reply rest → (b ≡ false) × (passed ≡ rest)
+passed_first true reply rest e = absurd cc
+passed_first false reply rest e = (refl, e)
 
 failed_first : (b : Bool) (reply said : Reply) (rest : Answer) (found : Option Reply) → (rest ≡ Err said → found ≡ Some said) → tested b reply rest ≡ Err said → cond b (Some reply) found ≡ Some said
 failed_first true reply said rest found more e = grind arith
@@ -42,21 +41,28 @@ fails : (check : Check) (rest : List Check) (r : Answer) (reply : Reply) → r �
 fails check rest r reply is err = failing check.fails (record { status = check.status; value = check.value }) reply (all_checked rest) (sym is ∙ err)
 
 -- where all pass, the first does, and so do the rest
-first_passes : (check : Check) (rest : List Check) (u : Unit {0}) → all_checked (check ∷ rest) ≡ Ok u → (check.fails ≡ false) × (all_checked rest ≡ Ok u)
-first_passes check rest u e = passed_first check.fails (record { status = check.status; value = check.value }) (all_checked rest) u e
+first_passes : (check : Check) (rest : List Check) → passed ≡ all_checked (check ∷ rest) → (check.fails ≡ false) × (passed ≡ all_checked rest)
+first_passes check rest e = passed_first check.fails (record { status = check.status; value = check.value }) (all_checked rest) e
+
+-- the check with a number passes, if there is one
+abbrev pub PassesAt : ℕ → List Check → Type 0
+PassesAt n [] = Unit {0}
+PassesAt zero (check ∷ checks) = check.fails ≡ false
+PassesAt (suc n) (check ∷ checks) = PassesAt n checks
 
 -- where all pass, each does
-pub each_passes : (checks : List Check) (u : Unit {0}) → all_checked checks ≡ Ok u → AllByRecursion (λ check. check.fails ≡ false) checks
-each_passes [] u e = tt
-each_passes (check ∷ checks) u e = let both = first_passes check checks u e in (both.0, each_passes checks u both.1)
+pub each_passes : (checks : List Check) → passed ≡ all_checked checks → (n : ℕ) → PassesAt n checks
+each_passes [] e n = tt
+each_passes (check ∷ checks) e zero = (first_passes check checks e).0
+each_passes (check ∷ checks) e (suc n) = each_passes checks (first_passes check checks e).1 n
 
 -- where all pass, none is the first that fails
-pub none_fails : (checks : List Check) (u : Unit {0}) → all_checked checks ≡ Ok u → first_failing checks ≡ None
-none_fails [] u e = refl
-none_fails (check ∷ checks) u e =
-    let both = first_passes check checks u e in
+pub none_fails : (checks : List Check) → passed ≡ all_checked checks → first_failing checks ≡ None
+none_fails [] e = refl
+none_fails (check ∷ checks) e =
+    let both = first_passes check checks e in
     let reply : Reply = record { status = check.status; value = check.value } in
-    ap (λ b. cond b (Some reply) (first_failing checks)) both.0 ∙ none_fails checks u both.1
+    ap (λ b. cond b (Some reply) (first_failing checks)) both.0 ∙ none_fails checks both.1
 
 -- where one answers, it is the first that fails
 pub one_fails : (checks : List Check) (reply : Reply) → all_checked checks ≡ Err reply → first_failing checks ≡ Some reply

@@ -11,6 +11,7 @@ use Rattle.cove_base.specs.declared.statuses.Status.TheVariants.{Success}
 use Rattle.cove_host.proofs.AcceptedCalls.{accepts}
 use Rattle.cove_host.proofs.CheckedLemmas.{each_passes, none_fails}
 use Rattle.cove_host.proofs.Creating.{stays_within}
+use Rattle.cove_host.proofs.PassedCalls.{AllPass}
 use Rattle.cove_host.proofs.PassedChecks.{inside_passes}
 use Rattle.cove_host.proofs.SharedPages.{in_run, unshared_words}
 use Rattle.cove_tvm.specs.Called.{Called, IsReady}
@@ -38,15 +39,14 @@ record Passed (G : Ground) (S : State) (base n : ℕ) : Type 0 where
   unshared : list_any (in_run (base / 4096) n) (shared_pages S) ≡ false
 
 module _ (words : List ℕ) (G : Ground) (hart base n : ℕ) (ready : IsReady words G)
-    (told : (S : State) → Stands words G S → (u : Unit {0}) × (Ok u ≡ all_checked (convert_checks S base n))) where
+    (told : AllPass (λ S. rule S hart (Convert base n)) words G) where
   passed : (S : State) → Stands words G S → Passed G S base n
   passed S stands =
-      let all = told S stands in
-      let from_inside = (each_passes (convert_checks S base n) all.0 (sym all.1)).1.1 in
+      let pass = each_passes (convert_checks S base n) (told S stands) in
       record {
-        inside = inside_passes base n stands from_inside.0;
-        hosts = not-false (every is_host (base / 4096) n S.pages) from_inside.1.0;
-        unshared = from_inside.1.1.0;
+        inside = inside_passes base n stands (pass 2);
+        hosts = not-false (every is_host (base / 4096) n S.pages) (pass 3);
+        unshared = pass 4;
       }
 
   here : Passed G ready.state base n
@@ -73,10 +73,9 @@ module _ (words : List ℕ) (G : Ground) (hart base n : ℕ) (ready : IsReady wo
       (λ most within. stays_within G.pages G.harts words (stored words (convert_stores G.pages words base n)) most behind within)
       (behind (count_word G.pages G.harts) (omega arith))
       (λ S met stands.
-      let all = told S stands in
       let pages = passed S stands in
       record {
-        none = none_fails (convert_checks S base n) all.0 (sym all.1);
+        none = none_fails (convert_checks S base n) (told S stands);
         value = refl;
         stands = ground_converts words G S hart base n ready.some_hart pages.inside pages.hosts stands;
       })

@@ -36,19 +36,17 @@ creation_checks S root state =
     RoomForTvm S ∷ RootAligned root ∷ Aligned state ∷ Inside S root 4 ∷ Inside S state 1 ∷ StateApart root state ∷ AllFree S root 4 ∷ AllFree S state 1 ∷ []
 
 -- where all pass, a TVM may be created
-pub may_create : (words : List ℕ) (G : Ground) (S : MonitorState) (root state : ℕ) (u : Unit {0}) → Stands words G S
-    → all_checked (creation_checks S root state) ≡ Ok u → MayCreate G.pages root state S
-may_create words G S root state u stands e =
-    let all = each_passes (creation_checks S root state) u e in
-    let from_inside = all.1.1.1 in
-    let from_apart = from_inside.1.1 in
+pub may_create : (words : List ℕ) (G : Ground) (S : MonitorState) (root state : ℕ) → Stands words G S
+    → Ok tt ≡ all_checked (creation_checks S root state) → MayCreate G.pages root state S
+may_create words G S root state stands e =
+    let pass = each_passes (creation_checks S root state) e in
     record {
-      room = leb-false TVM_LIMIT S.made all.0;
-      root_inside = inside_passes root 4 stands from_inside.0;
-      state_inside = inside_passes state 1 stands from_inside.1.0;
-      apart = apart (root / 4096) (state / 4096) from_apart.0;
-      root_free = not-false (every is_free (root / 4096) 4 S.pages) from_apart.1.0;
-      state_free = not-false (every is_free (state / 4096) 1 S.pages) from_apart.1.1.0;
+      room = leb-false TVM_LIMIT S.made (pass 0);
+      root_inside = inside_passes root 4 stands (pass 3);
+      state_inside = inside_passes state 1 stands (pass 4);
+      apart = apart (root / 4096) (state / 4096) (pass 5);
+      root_free = not-false (every is_free (root / 4096) 4 S.pages) (pass 6);
+      state_free = not-false (every is_free (state / 4096) 1 S.pages) (pass 7);
     }
   where
     apart : (first place : ℕ) → (leb first place && ltb place (first + 4)) ≡ false → (place < first) ⊎ (first + 4 ≤ place)
@@ -99,13 +97,13 @@ table_is x y pages tvms =
     ∙ ap (λ list. let table : TvmTable = record { pages = y.pages; tvms = list } in table) tvms
 
 module _ (words : List ℕ) (G : Ground) (hart root state : ℕ) (ready : IsReady words G)
-    (told : (S : MonitorState) → Stands words G S → (u : Unit {0}) × (Ok u ≡ all_checked (creation_checks S root state))) where
+    (told : (S : MonitorState) → Stands words G S → Ok tt ≡ all_checked (creation_checks S root state)) where
   -- the rule of the call
   abbrev creation : MonitorState → Rule
   creation S = rule S hart (Create root state)
 
   may : (S : MonitorState) → Stands words G S → MayCreate G.pages root state S
-  may S stands = let t = told S stands in may_create words G S root state t.0 stands (sym t.1)
+  may S stands = may_create words G S root state stands (told S stands)
 
   fences : FencesWithin G.pages G.harts words ENTRY_LIMIT
   fences = fences_within words G ready
@@ -142,10 +140,9 @@ module _ (words : List ℕ) (G : Ground) (hart root state : ℕ) (ready : IsRead
       → Called hart creation words (stored words (create_stores t root state)) G (record G { tvms = with_new G.tvms tvm }) (record { status = Success; value = t })
   accepted_by t tvm is fresh = record {
     serves = λ S met stands.
-        let found = told S stands in
         let made = stands.board.made in
         let same : S.made + 1 ≡ t = omega arith in
-        let none = none_fails (creation_checks S root state) found.0 (sym found.1) in
+        let none = none_fails (creation_checks S root state) (told S stands) in
         let new_tvm : IsNewTvm G.pages (root / 4096) (state / 4096) tvm = subst (λ n. IsNewTvm n (root / 4096) (state / 4096) tvm) stands.board.tvm_pages fresh in
         let after =
         subst (λ n. Stands (stored words (create_stores n root state)) (record G { tvms = with_new G.tvms tvm }) (rule S hart (Create root state)).outcome.state) same

@@ -10,11 +10,12 @@ use Rattle.cove_base.specs.declared.statuses.Status.TheVariants.{Success}
 use Rattle.cove_stage2.proofs.LawfulLemmas.{leads_on}
 use Rattle.cove_clear.specs.Clearing.{Goes, IsBeingCleared, MayBeCleared, Proceeds}
 use Rattle.cove_host.proofs.Beginning.{begins_leaving}
-use Rattle.cove_host.proofs.CheckedLemmas.{each_passes, none_fails}
+use Rattle.cove_host.proofs.CheckedLemmas.{each_passes}
 use Rattle.cove_host.proofs.LifeTold.{both_live}
 use Rattle.cove_host.proofs.TakenPages.{all_destroys, all_lawful, all_own}
 use Rattle.cove_tvm.specs.Called.{Called, IsMet, IsReady}
 use Rattle.cove_host.specs.Checked.{all_checked}
+use Rattle.cove_host.proofs.PassedCalls.{AllPass, lawful_call}
 use Rattle.cove_host.specs.Ended.{HasEnded, IsEnding, MayEnd}
 use Rattle.cove_host.specs.Inside.{is_inside}
 use Rattle.cove_host.specs.Released.{HavePlaces, all_cpu_pages, release_stores}
@@ -141,13 +142,11 @@ module _ (words : List ℕ) (G : Ground) (hart t : ℕ) (ready : IsReady words G
     subst (λ n. AllowsLawful allows n G.harts hart words) (sym (board tvm live)) lawful,
   )
 
-  module _ (new : List ℕ) (H : Ground) (told : (S : State) → Stands words G S → (u : Unit {0}) × (Ok u ≡ all_checked (rule S hart (Destroy t)).checks))
+  module _ (new : List ℕ) (H : Ground) (told : AllPass (λ S. rule S hart (Destroy t)) words G)
       (ended : (old : Tvm) → live_at G.tvms t ≡ Some old → (gone : Tvm) × HasEnded words new old gone × (H ≡ record G { tvms = with_tvm G.tvms (t - 1) gone })) where
     both : (S : State) (stands : Stands words G S) → (tvm : Tvm) × (model : ModelTvm) × (live_at G.tvms t ≡ Some tvm) × (find_tvm S t ≡ Some model)
     both S stands =
-        let one = told S stands in
-        let all = each_passes (rule S hart (Destroy t)).checks one.0 (sym one.1) in
-        both_live words G S t (live_at G.tvms t) (find_tvm S t) (stands.tvm t) all.0
+        both_live words G S t (live_at G.tvms t) (find_tvm S t) (stands.tvm t) (each_passes (rule S hart (Destroy t)).checks (told S stands) 0)
 
     destroyed : (S : State) → IsMet S → (stands : Stands words G S) → Destroys G.pages words new t
     destroyed S met stands =
@@ -175,21 +174,9 @@ module _ (words : List ℕ) (G : Ground) (hart t : ℕ) (ready : IsReady words G
 
     -- an accepted call, by what the code leaves
     pub destroys_tvm : Called hart (λ S. rule S hart (Destroy t)) words new G H (record { status = Success; value = 0 })
-    destroys_tvm = record {
-      serves = λ S met stands.
-          let one = told S stands in
-          let none = none_fails (rule S hart (Destroy t)).checks one.0 (sym one.1) in
-          let stand = after S met stands in
-          rw none (refl, stand);
-      lawful =
-          let live = both ready.state ready.stands in
-          subst (λ n. MakesLawful n G.harts hart words words new) (board live.0 live.2)
-          ((ended live.0 live.2).1.lawful G.harts t hart words (ending ready.state ready.met ready.stands live.0 live.2));
-      refused = λ e. absurd cc;
-      fences = λ most within. record {
-        epoch = let epoch = within.epoch in let same = kept.behind (epoch_word G.pages) (omega arith) in omega arith;
-        numbers = λ u low high. let number = within.numbers u low high in let same = kept.behind (tvm_word G.pages G.harts u) (omega arith) in omega arith;
-      };
-      count = kept.behind (count_word G.pages G.harts) (omega arith);
-      size = kept.size;
-    }
+    destroys_tvm =
+        let live = both ready.state ready.stands in
+        lawful_call hart (λ S. rule S hart (Destroy t)) words new G H told after (λ S. refl)
+        (subst (λ n. MakesLawful n G.harts hart words words new) (board live.0 live.2)
+        ((ended live.0 live.2).1.lawful G.harts t hart words (ending ready.state ready.met ready.stands live.0 live.2)))
+        (λ at past. kept.behind at past)

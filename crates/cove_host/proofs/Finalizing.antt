@@ -47,8 +47,7 @@ module _ (words : List ℕ) (G H : Ground) (hart pc arg : ℕ) where
   finalizes t told finishes =
       passed_call hart (by_rule t) words G H [] told
       (λ S met stands.
-      let passed = told S stands in
-      let all = each_passes (rule S hart (Finalize t pc arg)).checks passed.0 (sym passed.1) in
-      let both = both_live words G S t (live_at G.tvms t) (find_tvm S t) (stands.tvm t) all.0 in
+      let lives = each_passes (by_rule t S).checks (told S stands) 0 in
+      let both = both_live words G S t (live_at G.tvms t) (find_tvm S t) (stands.tvm t) lives in
       finished t S both.0 both.1 stands both.2 both.3 finishes)
       (λ S. refl) tt (λ at past. refl)

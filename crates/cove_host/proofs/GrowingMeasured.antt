@@ -54,16 +54,12 @@ module _ {words : List ℕ} {G : Ground} (ready : IsReady words G) (src dst n gp
 
   pub measures : (t : ℕ) → AllPass (by_rule t) words G → (S : State) → Stands words G S → Measures words G S t src dst n gpa
   measures t told S stands =
-      let one = told S stands in
-      let all = each_passes (measured_checks S t src dst n gpa) one.0 (sym one.1) in
-      let from_gpa = all.1.1.1.1.1 in
-      let from_owners = from_gpa.1.1.1 in
-      let from_unmapped = from_owners.1.1.1 in
-      let whole : gpa % 4096 ≡ 0 = eqb-true (gpa % 4096) 0 (not-false (gpa % 4096 == 0) from_gpa.0) in
+      let pass = each_passes (measured_checks S t src dst n gpa) (told S stands) in
+      let whole : gpa % 4096 ≡ 0 = eqb-true (gpa % 4096) 0 (not-false (gpa % 4096 == 0) (pass 5)) in
       record {
-        grown = grows ready dst n gpa near is_free t S stands all.0 from_gpa.1.1.0 from_owners.1.0 from_unmapped.0 from_unmapped.1.0;
-        inside = inside_passes src n stands from_gpa.1.0;
-        hosts = not-false (every is_host (src / 4096) n S.pages) from_owners.0;
+        grown = grows ready dst n gpa near is_free t S stands (pass 0) (pass 7) (pass 9) (pass 11) (pass 12);
+        inside = inside_passes src n stands (pass 6);
+        hosts = not-false (every is_host (src / 4096) n S.pages) (pass 8);
         place = omega (arith, whole);
       }
 

@@ -86,14 +86,11 @@ module _ {words : List ℕ} {G : Ground} (ready : IsReady words G) (base n gpa :
 
   -- where all checks of such a call pass
   pub run_grows : (shared : Bool) (t : ℕ)
-      → ((S : State) → Stands words G S → (u : Unit {0}) × (Ok u ≡ all_checked (run_checks test shared S t base n gpa)))
+      → ((S : State) → Stands words G S → Ok tt ≡ all_checked (run_checks test shared S t base n gpa))
       → (S : State) → Stands words G S → Grows test words G S t base n gpa
   run_grows shared t told S stands =
-      let one = told S stands in
-      let all = each_passes (run_checks test shared S t base n gpa) one.0 (sym one.1) in
-      let from_inside = all.1.1.1.1.1 in
-      let from_unmapped = from_inside.1.1.1 in
-      grows t S stands all.0 from_inside.0 from_inside.1.0 from_unmapped.0 from_unmapped.1.0
+      let pass = each_passes (run_checks test shared S t base n gpa) (told S stands) in
+      grows t S stands (pass 0) (pass 5) (pass 6) (pass 8) (pass 9)
 
 -- ---- what the code leaves
 

@@ -17,7 +17,7 @@ use Rattle.cove_tvm.specs.declared.machines.Tvm.{Tvm}
 
 -- every check passes in every state that words and ground stand for
 abbrev pub AllPass : (State → Rule) → List ℕ → Ground → Type 0
-AllPass rule_in words G = (S : State) → Stands words G S → (u : Unit {0}) × (Ok u ≡ all_checked (rule_in S).checks)
+AllPass rule_in words G = (S : State) → Stands words G S → Ok tt ≡ all_checked (rule_in S).checks
 
 -- its stores are lawful and leave the words behind the tables, and it has no value
 pub passed_call : (hart : ℕ) (rule_in : State → Rule) (words : List ℕ) (G H : Ground) (ss : List (ℕ × ℕ)) → AllPass rule_in words G
@@ -32,9 +32,7 @@ passed_call hart rule_in words G H ss told after none lawful behind =
     let epoch = behind (epoch_word G.pages) (omega arith) in
     rises_within G.pages G.harts words (stored words ss) most (omega arith) (λ t. behind (tvm_word G.pages G.harts t) (omega arith)) within)
     (behind (count_word G.pages G.harts) (omega arith))
-    (λ S met stands.
-    let one = told S stands in
-    record { none = none_fails (rule_in S).checks one.0 (sym one.1); value = none S; stands = after S met stands })
+    (λ S met stands. record { none = none_fails (rule_in S).checks (told S stands); value = none S; stands = after S met stands })
 
 -- the same by words that lawful stores lead to
 pub lawful_call : (hart : ℕ) (rule_in : State → Rule) (words new : List ℕ) (G H : Ground) → AllPass rule_in words G

@@ -10,6 +10,7 @@ use Rattle.cove_base.specs.declared.statuses.Status.TheVariants.{Success}
 use Rattle.cove_host.proofs.AcceptedCalls.{accepts}
 use Rattle.cove_host.proofs.CheckedLemmas.{each_passes, none_fails}
 use Rattle.cove_host.proofs.Creating.{stays_within}
+use Rattle.cove_host.proofs.PassedCalls.{AllPass}
 use Rattle.cove_host.proofs.PassedChecks.{inside_passes}
 use Rattle.cove_tvm.specs.Called.{Called, IsReady}
 use Rattle.cove_host.specs.Checked.{all_checked}
@@ -32,13 +33,12 @@ abbrev pub reclaim_checks : State → (base n : ℕ) → List Check
 reclaim_checks S base n = Count n ∷ Aligned base ∷ Inside S base n ∷ AllFree S base n ∷ []
 
 module _ (words : List ℕ) (G : Ground) (hart base n : ℕ) (ready : IsReady words G)
-    (told : (S : State) → Stands words G S → (u : Unit {0}) × (Ok u ≡ all_checked (reclaim_checks S base n))) where
+    (told : AllPass (λ S. rule S hart (Reclaim base n)) words G) where
   -- the pages are on the board, and free
   passed : (S : State) → Stands words G S → (base / 4096 + n ≤ G.pages) × (every is_free (base / 4096) n S.pages ≡ true)
   passed S stands =
-      let all = told S stands in
-      let from_inside = (each_passes (reclaim_checks S base n) all.0 (sym all.1)).1.1 in
-      (inside_passes base n stands from_inside.0, not-false (every is_free (base / 4096) n S.pages) from_inside.1.0)
+      let pass = each_passes (reclaim_checks S base n) (told S stands) in
+      (inside_passes base n stands (pass 2), not-false (every is_free (base / 4096) n S.pages) (pass 3))
 
   inside : base / 4096 + n ≤ G.pages
   inside = (passed ready.state ready.stands).0
@@ -70,10 +70,9 @@ module _ (words : List ℕ) (G : Ground) (hart base n : ℕ) (ready : IsReady wo
       (λ most within. stays_within G.pages G.harts words (stored words (reclaim_stores base n)) most behind within)
       (behind (count_word G.pages G.harts) (omega arith))
       (λ S met stands.
-      let all = told S stands in
       let pages = passed S stands in
       record {
-        none = none_fails (reclaim_checks S base n) all.0 (sym all.1);
+        none = none_fails (reclaim_checks S base n) (told S stands);
         value = refl;
         stands = ground_reclaims words G S hart base n pages.0 pages.1 met.sound stands;
       })

@@ -94,27 +94,25 @@ record Passed (words : List ℕ) (G : Ground) (S : State) (t gpa len : ℕ) : Ty
   apart : list_any (meets (gpa / 4096) (len / 4096)) model.regions ≡ false
   room : length model.regions < REGION_LIMIT
 
-passed : (words : List ℕ) (G : Ground) (S : State) (t gpa len : ℕ) (u : Unit {0}) → Stands words G S → all_checked (region_checks S t gpa len) ≡ Ok u
+passed : (words : List ℕ) (G : Ground) (S : State) (t gpa len : ℕ) → Stands words G S → Ok tt ≡ all_checked (region_checks S t gpa len)
     → Passed words G S t gpa len
-passed words G S t gpa len u stands e =
-    let all = each_passes (region_checks S t gpa len) u e in
-    let from_gpa = all.1.1 in
-    let from_area = from_gpa.1.1 in
-    let both = both_live words G S t (live_at G.tvms t) (find_tvm S t) (stands.tvm t) all.0 in
-    let area = area_is gpa len from_area.0 in
+passed words G S t gpa len stands e =
+    let pass = each_passes (region_checks S t gpa len) e in
+    let both = both_live words G S t (live_at G.tvms t) (find_tvm S t) (stands.tvm t) (pass 0) in
+    let area = area_is gpa len (pass 4) in
     record {
       old = both.0;
       model = both.1;
       live = both.2;
       found = both.3;
-      begins = whole gpa from_gpa.0;
-      lasts = whole len from_gpa.1.0;
+      begins = whole gpa (pass 2);
+      lasts = whole len (pass 3);
       some = area.0;
       within = area.1;
-      apart = ap (λ v. list_any (meets (gpa / 4096) (len / 4096)) (unwrap_or v (new_tvm t)).regions) (sym both.3) ∙ from_area.1.0;
+      apart = ap (λ v. list_any (meets (gpa / 4096) (len / 4096)) (unwrap_or v (new_tvm t)).regions) (sym both.3) ∙ pass 5;
       room =
           leb-false REGION_LIMIT (length both.1.regions)
-          (ap (λ v. nat_le REGION_LIMIT (length (unwrap_or v (new_tvm t)).regions)) (sym both.3) ∙ from_area.1.1.0);
+          (ap (λ v. nat_le REGION_LIMIT (length (unwrap_or v (new_tvm t)).regions)) (sym both.3) ∙ pass 6);
     }
 
 module _ (words : List ℕ) (G H : Ground) (hart gpa len : ℕ) where
@@ -163,5 +161,5 @@ module _ (words : List ℕ) (G H : Ground) (hart gpa len : ℕ) where
       → Called hart (by_rule t) words words G H (record { status = Success; value = 0 })
   adds_region t told adds =
       passed_call hart (by_rule t) words G H [] told
-      (λ S met stands. let one = told S stands in after t S stands (passed words G S t gpa len one.0 stands (sym one.1)) adds)
+      (λ S met stands. after t S stands (passed words G S t gpa len stands (told S stands)) adds)
       (λ S. refl) tt (λ at past. refl)

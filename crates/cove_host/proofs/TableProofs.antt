@@ -35,10 +35,8 @@ module _ (words : List ℕ) (G : Ground) (hart base n : ℕ) (ready : IsReady wo
 
   pass : (t : ℕ) → AllPass (by_rule t) words G → (S : State) → Stands words G S → Gives words G S t base n
   pass t told S stands =
-      let one = told S stands in
-      let all = each_passes (tables_checks S t base n) one.0 (sym one.1) in
-      let from_inside = all.1.1.1 in
-      gives t base n stands all.0 from_inside.0 from_inside.1.0
+      let pass = each_passes (tables_checks S t base n) (told S stands) in
+      gives t base n stands (pass 0) (pass 3) (pass 4)
 
   -- the pages are on the board
   pages_inside : (t : ℕ) → AllPass (by_rule t) words G → base / 4096 + n ≤ G.pages

@@ -9,14 +9,14 @@ pub give-requires-clause-allowed : goal.give-requires-clause-allowed
 give-requires-clause-allowed g c =
     let same = c.in-Ok.ensures.unchanged in
     rw (same.guard, same.words)
-    (root_allowed _ _ c.args.h.0 c.args.root c.args.state c.requires.ready (λ S stands. (c.in-Ok.field-0, c.in-Ok.ensures.told 0 S stands))
+    (root_allowed _ _ c.args.h.0 c.args.root c.args.state c.requires.ready (c.in-Ok.ensures.told 0)
     _ c.requires.allowed c.create-t.result.0 c.create-t.ensures.number)
 
 pub give-requires-in-Ok-clause-allowed : goal.give-requires-in-Ok-clause-allowed
 give-requires-in-Ok-clause-allowed g c =
     let same = c.in-Ok.ensures.unchanged in
     rw (c.give.ensures.guard, c.give.ensures.words, same.guard, same.words)
-    (state_allowed _ _ c.args.h.0 c.args.root c.args.state c.requires.ready (λ S stands. (c.in-Ok.field-0, c.in-Ok.ensures.told 0 S stands))
+    (state_allowed _ _ c.args.h.0 c.args.root c.args.state c.requires.ready (c.in-Ok.ensures.told 0)
     _ c.requires.allowed c.create-t.result.0 c.create-t.ensures.number)
 
 pub returns-in-Err-clause-called : goal.returns-in-Err-clause-called
@@ -29,7 +29,7 @@ returns-in-Ok-clause-called g c =
     let added = c.create-t.ensures.added in
     let rooted =
     c.give.ensures.words ∙ ap (λ (ws : List ℕ). stored ws (fills (c.args.root / 4096) 4 (given c.create-t.result.0 Root))) c.in-Ok.ensures.unchanged.words in
-    creates _ _ c.args.h.0 c.args.root c.args.state c.requires.ready (λ S stands. (c.in-Ok.field-0, c.in-Ok.ensures.told 0 S stands))
+    creates _ _ c.args.h.0 c.args.root c.args.state c.requires.ready (c.in-Ok.ensures.told 0)
     c.create-t.result.0 c.from.result added.0 c.create-t.new.self _ c.create-t.ensures.number c.from.ensures
     (rw (c.page_of.ensures, c.page_of-in-Ok.ensures) at added.1) added.2 c.create-t.ensures.pages
     (c.give-in-Ok.ensures.words ∙ ap (λ (ws : List ℕ). stored ws (fills (c.args.state / 4096) 1 (given c.create-t.result.0 State))) rooted)

@@ -10,7 +10,7 @@ returns-in-Err-clause-called g c =
 pub returns-in-Ok-clause-called : goal.returns-in-Ok-clause-called
 returns-in-Ok-clause-called g c =
     destroys_tvm _ _ c.args.h.0 c.args.t c.requires.ready c.in-Ok.ensures.outside _ _
-    (λ S stands. (c.in-Ok.field-0, c.in-Ok.ensures.told c.args.h.0 S stands)) (rw c.in-Ok.ensures.unchanged.words at c.end.ensures.ended)
+    (c.in-Ok.ensures.told c.args.h.0) (rw c.in-Ok.ensures.unchanged.words at c.end.ensures.ended)
 
 pub end-requires : goal.end-requires
 end-requires g c = record {

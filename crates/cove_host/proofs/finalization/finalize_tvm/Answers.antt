@@ -9,4 +9,4 @@ returns-in-Err-clause-called g c =
 pub returns-in-Ok-clause-called : goal.returns-in-Ok-clause-called
 returns-in-Ok-clause-called g c =
     finalizes _ _ _ c.args.h.0 c.args.pc c.args.arg c.args.t
-    (λ S stands. (c.in-Ok.field-0, c.in-Ok.ensures.told _ c.args.h.0 c.args.arg S stands)) c.finish.ensures
+    (λ S stands. c.in-Ok.ensures.told _ c.args.h.0 c.args.arg S stands) c.finish.ensures

@@ -8,7 +8,7 @@ pub copy_all-requires-clause-apart : goal.copy_all-requires-clause-apart
 copy_all-requires-clause-apart g c =
     rw (c.page_of.ensures, c.page_of-in-Ok.ensures)
     (apart c.requires.ready c.args.src c.args.dst c.args.n c.args.gpa c.in-Ok.ensures.near c.args.h.0 c.args.t c.in-Ok.ensures.within.0
-    (λ S stands. (c.in-Ok.field-0, c.in-Ok.ensures.told c.args.h.0 S stands)))
+    (c.in-Ok.ensures.told c.args.h.0))
 
 pub give_copies-requires-clause-allowed : goal.give_copies-requires-clause-allowed
 give_copies-requires-clause-allowed g c =
@@ -16,14 +16,14 @@ give_copies-requires-clause-allowed g c =
     let near = c.in-Ok.ensures.near in
     rw (same.guard, same.words)
     (memory_allowed c.requires.ready c.args.dst c.args.n c.args.gpa c.args.h.0 c.args.t
-    (λ S stands. (measures c.requires.ready c.args.src c.args.dst c.args.n c.args.gpa near c.args.h.0 c.args.t (λ R stand. (c.in-Ok.field-0, c.in-Ok.ensures.told c.args.h.0 R stand)) S stands).grown)
+    (λ S stands. (measures c.requires.ready c.args.src c.args.dst c.args.n c.args.gpa near c.args.h.0 c.args.t (c.in-Ok.ensures.told c.args.h.0) S stands).grown)
     _ c.requires.allowed)
 
 pub give_copies-requires-clause-filled : goal.give_copies-requires-clause-filled
 give_copies-requires-clause-filled g c =
     copies_are _ _ _ _ _ (rw (c.page_of.ensures, c.page_of-in-Ok.ensures) at c.copy_all.ensures)
     (apart c.requires.ready c.args.src c.args.dst c.args.n c.args.gpa c.in-Ok.ensures.near c.args.h.0 c.args.t c.in-Ok.ensures.within.0
-    (λ S stands. (c.in-Ok.field-0, c.in-Ok.ensures.told c.args.h.0 S stands)))
+    (c.in-Ok.ensures.told c.args.h.0))
 
 pub returns-in-Err-clause-called : goal.returns-in-Err-clause-called
 returns-in-Err-clause-called g c =
@@ -36,7 +36,7 @@ map_measured-requires-clause-may g c = λ tvm live.
     let near = c.in-Ok.ensures.near in
     rw (c.give_copies.ensures.guard, c.give_copies.ensures.words, c.page_of-in-Ok-2.ensures, same.guard, same.words)
     (memory_maps c.requires.ready c.args.dst c.args.n c.args.gpa c.args.h.0 c.args.t
-    (λ S stands. (measures c.requires.ready c.args.src c.args.dst c.args.n c.args.gpa near c.args.h.0 c.args.t (λ R stand. (c.in-Ok.field-0, c.in-Ok.ensures.told c.args.h.0 R stand)) S stands).grown)
+    (λ S stands. (measures c.requires.ready c.args.src c.args.dst c.args.n c.args.gpa near c.args.h.0 c.args.t (c.in-Ok.ensures.told c.args.h.0) S stands).grown)
     _ c.requires.allowed tvm live)
 
 pub returns-in-Ok-clause-called : goal.returns-in-Ok-clause-called
@@ -44,5 +44,5 @@ returns-in-Ok-clause-called g c =
     let same = c.in-Ok.ensures.unchanged in
     adds_measured c.requires.ready c.args.src c.args.dst c.args.n c.args.gpa c.in-Ok.ensures.near c.args.h.0 _ _ _
     (rw (c.page_of.ensures, c.page_of-in-Ok.ensures) at c.copy_all.ensures) c.args.t
-    (λ S stands. (c.in-Ok.field-0, c.in-Ok.ensures.told c.args.h.0 S stands))
+    (c.in-Ok.ensures.told c.args.h.0)
     (rw (c.page_of-in-Ok-2.ensures, c.give_copies.ensures.words, same.words) at c.map_measured.ensures.mapped)

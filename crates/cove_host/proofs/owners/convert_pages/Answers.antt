@@ -9,7 +9,7 @@ set_all-requires-clause-allowed g c =
     rw (read.guard, same.guard)
     (rw (c.current-since.ensures.value, c.epochs.ensures.first, c.pages_from.ensures.first, c.pages_from.ensures.count)
     (rw (read.words, same.words)
-    (convert_allowed _ _ c.args.h.0 c.args.base c.args.n c.requires.ready (λ S stands. (c.in-Ok.field-0, c.in-Ok.ensures.told c.args.h.0 S stands)) _
+    (convert_allowed _ _ c.args.h.0 c.args.base c.args.n c.requires.ready (c.in-Ok.ensures.told c.args.h.0) _
     c.requires.allowed)))
 
 pub returns-in-Err-clause-called : goal.returns-in-Err-clause-called
@@ -22,4 +22,4 @@ returns-in-Ok-clause-called g c =
     rw (c.set_all.ensures.words, c.pages_from.ensures.first, c.pages_from.ensures.count)
     (rw (c.current-since.ensures.value, c.epochs.ensures.first)
     (rw (c.current-since.ensures.unchanged.words, c.in-Ok.ensures.unchanged.words)
-    (convert_accepted _ _ c.args.h.0 c.args.base c.args.n c.requires.ready (λ S stands. (c.in-Ok.field-0, c.in-Ok.ensures.told c.args.h.0 S stands)))))
+    (convert_accepted _ _ c.args.h.0 c.args.base c.args.n c.requires.ready (c.in-Ok.ensures.told c.args.h.0))))

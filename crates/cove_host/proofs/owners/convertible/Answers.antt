@@ -27,7 +27,7 @@ returns-in_err-all_host-clause-told g c = λ hart S stands.
 pub returns-clause-told : goal.returns-clause-told
 returns-clause-told g c = λ hart S stands.
     let told = c.in_ok-all_host.ensures.told S stands in
-    let hosts = each_passes (AllHost S c.args.base c.args.n ∷ []) c.in_ok-all_host.field-0 (sym told) in
-    rw c.all_host.ensures.unchanged.words at c.none_shared.ensures.told S stands hosts.0
+    let hosts = each_passes (AllHost S c.args.base c.args.n ∷ []) told 0 in
+    rw c.all_host.ensures.unchanged.words at c.none_shared.ensures.told S stands hosts
     ∙ sym (front_passes 4 (rule S hart (Convert c.args.base c.args.n)).checks
     (c.in_ok-counted.ensures.told, (c.in_ok-aligned.ensures, (c.in_ok-inside.ensures.told _ S stands, (told, tt)))))

@@ -7,7 +7,7 @@ pub give_back-requires-clause-allowed : goal.give_back-requires-clause-allowed
 give_back-requires-clause-allowed g c =
     let same = c.in-Ok.ensures.unchanged in
     rw (same.guard, same.words, c.pages_from-range.ensures.first, c.pages_from-range.ensures.count)
-    (reclaim_allowed _ _ c.args.h.0 c.args.base c.args.n c.requires.ready (λ S stands. (c.in-Ok.field-0, c.in-Ok.ensures.told c.args.h.0 S stands)) _
+    (reclaim_allowed _ _ c.args.h.0 c.args.base c.args.n c.requires.ready (c.in-Ok.ensures.told c.args.h.0) _
     c.requires.allowed)
 
 pub give_back-requires-clause-zeros : goal.give_back-requires-clause-zeros
@@ -21,4 +21,4 @@ returns-in-Err-clause-called g c =
 pub returns-in-Ok-clause-called : goal.returns-in-Ok-clause-called
 returns-in-Ok-clause-called g c =
     rw (c.give_back.ensures.words, zeroed_is _ _ _ _ c.zero_all.ensures, c.in-Ok.ensures.unchanged.words, c.pages_from-range.ensures.first, c.pages_from-range.ensures.count)
-    (reclaim_accepted _ _ c.args.h.0 c.args.base c.args.n c.requires.ready (λ S stands. (c.in-Ok.field-0, c.in-Ok.ensures.told c.args.h.0 S stands)))
+    (reclaim_accepted _ _ c.args.h.0 c.args.base c.args.n c.requires.ready (c.in-Ok.ensures.told c.args.h.0))

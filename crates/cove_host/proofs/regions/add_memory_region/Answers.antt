@@ -9,4 +9,4 @@ returns-in-Err-clause-called g c =
 pub returns-in-Ok-clause-called : goal.returns-in-Ok-clause-called
 returns-in-Ok-clause-called g c =
     adds_region _ _ _ c.args.h.0 c.args.gpa c.args.len c.args.t
-    (λ S stands. (c.in-Ok.field-0, c.in-Ok.ensures.told _ c.args.h.0 S stands)) c.add.ensures
+    (λ S stands. c.in-Ok.ensures.told _ c.args.h.0 S stands) c.add.ensures

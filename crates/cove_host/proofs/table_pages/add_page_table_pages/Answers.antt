@@ -10,12 +10,12 @@ give-requires-clause-allowed g c =
     let same = c.in-Ok.ensures.unchanged in
     rw (same.guard, same.words)
     (stores_allowed _ _ c.args.h.0 c.args.base c.args.n c.requires.ready _ c.requires.allowed c.args.t
-    (λ S stands. (c.in-Ok.field-0, c.in-Ok.ensures.told c.args.h.0 S stands)))
+    (c.in-Ok.ensures.told c.args.h.0))
 
 pub add-requires-clause-room : goal.add-requires-clause-room
 add-requires-clause-room g c =
     pool_room _ _ c.args.h.0 c.args.base c.args.n c.requires.ready c.args.t
-    (λ S stands. (c.in-Ok.field-0, c.in-Ok.ensures.told c.args.h.0 S stands))
+    (c.in-Ok.ensures.told c.args.h.0)
 
 pub returns-in-Err-clause-called : goal.returns-in-Err-clause-called
 returns-in-Err-clause-called g c =
@@ -25,5 +25,5 @@ returns-in-Err-clause-called g c =
 pub returns-in-Ok-clause-called : goal.returns-in-Ok-clause-called
 returns-in-Ok-clause-called g c =
     adds_tables _ _ c.args.h.0 c.args.base c.args.n c.requires.ready _ c.args.t _
-    (λ S stands. (c.in-Ok.field-0, c.in-Ok.ensures.told c.args.h.0 S stands)) c.add.ensures
+    (c.in-Ok.ensures.told c.args.h.0) c.add.ensures
     (c.give.ensures.words ∙ ap (λ (ws : List ℕ). stored ws (tables_stores c.args.t c.args.base c.args.n)) c.in-Ok.ensures.unchanged.words)

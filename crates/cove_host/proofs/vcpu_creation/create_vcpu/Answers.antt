@@ -10,7 +10,7 @@ give-requires-clause-allowed g c =
     let same = c.in-Ok.ensures.unchanged in
     rw (same.guard, same.words)
     (store_allowed _ _ c.args.h.0 c.args.v c.args.state c.requires.ready _ c.requires.allowed c.args.t
-    (λ S stands. (c.in-Ok.field-0, c.in-Ok.ensures.told c.args.h.0 S stands)))
+    (c.in-Ok.ensures.told c.args.h.0))
 
 pub returns-in-Err-clause-called : goal.returns-in-Err-clause-called
 returns-in-Err-clause-called g c =
@@ -20,5 +20,5 @@ returns-in-Err-clause-called g c =
 pub returns-in-Ok-clause-called : goal.returns-in-Ok-clause-called
 returns-in-Ok-clause-called g c =
     adds_vcpu _ _ c.args.h.0 c.args.v c.args.state c.requires.ready _ c.args.t _
-    (λ S stands. (c.in-Ok.field-0, c.in-Ok.ensures.told c.args.h.0 S stands)) (rw c.page_of.ensures at c.add.ensures)
+    (c.in-Ok.ensures.told c.args.h.0) (rw c.page_of.ensures at c.add.ensures)
     (c.give.ensures.words ∙ ap (λ (ws : List ℕ). stored ws (vcpu_stores c.args.t c.args.state)) c.in-Ok.ensures.unchanged.words)

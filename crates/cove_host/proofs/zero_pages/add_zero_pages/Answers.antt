@@ -9,7 +9,7 @@ give_zeros-requires-clause-allowed g c =
     let near = c.in-Ok.ensures.near in
     rw (same.guard, same.words)
     (memory_allowed c.requires.ready c.args.base c.args.n c.args.gpa c.args.h.0 c.args.t
-    (zero_grows c.requires.ready c.args.base c.args.n c.args.gpa near c.args.h.0 c.args.t (λ S stands. (c.in-Ok.field-0, c.in-Ok.ensures.told c.args.h.0 S stands)))
+    (zero_grows c.requires.ready c.args.base c.args.n c.args.gpa near c.args.h.0 c.args.t (c.in-Ok.ensures.told c.args.h.0))
     _ c.requires.allowed)
 
 pub give_zeros-requires-clause-filled : goal.give_zeros-requires-clause-filled
@@ -21,7 +21,7 @@ map_pages-requires g c = λ tvm live.
     let near = c.in-Ok.ensures.near in
     rw (c.give_zeros.ensures.guard, c.give_zeros.ensures.words, c.page_of-in-Ok.ensures, same.guard, same.words)
     (memory_maps c.requires.ready c.args.base c.args.n c.args.gpa c.args.h.0 c.args.t
-    (zero_grows c.requires.ready c.args.base c.args.n c.args.gpa near c.args.h.0 c.args.t (λ S stands. (c.in-Ok.field-0, c.in-Ok.ensures.told c.args.h.0 S stands)))
+    (zero_grows c.requires.ready c.args.base c.args.n c.args.gpa near c.args.h.0 c.args.t (c.in-Ok.ensures.told c.args.h.0))
     _ c.requires.allowed tvm live)
 
 pub returns-in-Err-clause-called : goal.returns-in-Err-clause-called
@@ -33,5 +33,5 @@ pub returns-in-Ok-clause-called : goal.returns-in-Ok-clause-called
 returns-in-Ok-clause-called g c =
     let same = c.in-Ok.ensures.unchanged in
     adds_zero c.requires.ready c.args.base c.args.n c.args.gpa c.in-Ok.ensures.near c.args.h.0 _ _ _ (rw c.page_of.ensures at c.zero_all.ensures) c.args.t
-    (λ S stands. (c.in-Ok.field-0, c.in-Ok.ensures.told c.args.h.0 S stands))
+    (c.in-Ok.ensures.told c.args.h.0)
     (rw (c.page_of-in-Ok.ensures, c.give_zeros.ensures.words, same.words) at c.map_pages.ensures.mapped)
