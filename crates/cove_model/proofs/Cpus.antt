@@ -33,20 +33,20 @@ Anyhow cpu now = Unit {0}
 
 module _ (R : Cpu → Cpu → Type 0) (refl_R : (cpu : Cpu) → R cpu cpu) where
   -- the vCPUs stay
-  pub stay_same : (v : ℕ) (tvm tvm' : Tvm) → tvm'.cpus ≡ tvm.cpus → tvm'.runnable ≡ tvm.runnable → AllStay R v tvm tvm'
+  pub stay_same : (v : ℕ) (tvm tvm' : Tvm) → tvm'.cpus ≡ tvm.cpus → (tvm.runnable ≡ true → tvm'.runnable ≡ true) → AllStay R v tvm tvm'
   stay_same v tvm tvm' cpus runs cpu found is =
-      record { runs = runs ∙ is; now = cpu; there = ap (at (λ (c : Cpu). c.number) v) cpus ∙ found; kept = refl_R cpu }
+      record { runs = runs is; now = cpu; there = ap (at (λ (c : Cpu). c.number) v) cpus ∙ found; kept = refl_R cpu }
 
   -- one is added
-  pub stay_append : (v : ℕ) (new : List Cpu) (tvm tvm' : Tvm) → tvm'.cpus ≡ tvm.cpus ++ new → tvm'.runnable ≡ tvm.runnable → AllStay R v tvm tvm'
+  pub stay_append : (v : ℕ) (new : List Cpu) (tvm tvm' : Tvm) → tvm'.cpus ≡ tvm.cpus ++ new → (tvm.runnable ≡ true → tvm'.runnable ≡ true) → AllStay R v tvm tvm'
   stay_append v new tvm tvm' cpus runs cpu found is =
-      record { runs = runs ∙ is; now = cpu; there = ap (at (λ (c : Cpu). c.number) v) cpus ∙ at_append (λ (c : Cpu). c.number) v tvm.cpus new cpu found; kept = refl_R cpu }
+      record { runs = runs is; now = cpu; there = ap (at (λ (c : Cpu). c.number) v) cpus ∙ at_append (λ (c : Cpu). c.number) v tvm.cpus new cpu found; kept = refl_R cpu }
 
   -- every one is changed
   pub stay_map : (v : ℕ) (how : Cpu → Cpu) → ((cpu : Cpu) → (how cpu).number ≡ cpu.number) → ((cpu : Cpu) → R cpu (how cpu)) → (tvm tvm' : Tvm)
-      → tvm'.cpus ≡ map how tvm.cpus → tvm'.runnable ≡ tvm.runnable → AllStay R v tvm tvm'
+      → tvm'.cpus ≡ map how tvm.cpus → (tvm.runnable ≡ true → tvm'.runnable ≡ true) → AllStay R v tvm tvm'
   stay_map v how numbers each tvm tvm' cpus runs cpu found is = record {
-    runs = runs ∙ is;
+    runs = runs is;
     now = how cpu;
     there = ap (at (λ (c : Cpu). c.number) v) cpus ∙ at_map (λ (c : Cpu). c.number) how numbers v tvm.cpus ∙ ap (option_map how) found;
     kept = each cpu;
@@ -54,10 +54,10 @@ module _ (R : Cpu → Cpu → Type 0) (refl_R : (cpu : Cpu) → R cpu cpu) where
 
   -- one is changed: this one, or another
   pub stay_on_cpu : (v w : ℕ) (how : Cpu → Cpu) → ((cpu : Cpu) → (how cpu).number ≡ cpu.number) → (v ≡ w → (cpu : Cpu) → R cpu (how cpu)) → (tvm tvm' : Tvm)
-      → tvm'.cpus ≡ alter (λ (c : Cpu). c.number) w how tvm.cpus → tvm'.runnable ≡ tvm.runnable → AllStay R v tvm tvm'
+      → tvm'.cpus ≡ alter (λ (c : Cpu). c.number) w how tvm.cpus → (tvm.runnable ≡ true → tvm'.runnable ≡ true) → AllStay R v tvm tvm'
   stay_on_cpu v w how numbers each tvm tvm' cpus runs cpu found is = ⊎_elim
       (λ same. record {
-        runs = runs ∙ is;
+        runs = runs is;
         now = how cpu;
         there = ap (at (λ (c : Cpu). c.number) v) cpus
             ∙ ap (λ k. at (λ (c : Cpu). c.number) v (alter (λ (c : Cpu). c.number) k how tvm.cpus)) (sym same)
@@ -65,7 +65,7 @@ module _ (R : Cpu → Cpu → Type 0) (refl_R : (cpu : Cpu) → R cpu cpu) where
         kept = each same cpu;
       })
       (λ ne. record {
-        runs = runs ∙ is;
+        runs = runs is;
         now = cpu;
         there = ap (at (λ (c : Cpu). c.number) v) cpus ∙ at_alter_other (λ (c : Cpu). c.number) v w how numbers ne tvm.cpus ∙ found;
         kept = refl_R cpu;
@@ -100,12 +100,12 @@ tvm_altered R refl_R u v t how numbers xs each tvm live = ⊎_elim
     (λ ne. record {
       now = tvm;
       live = at_alter_other (λ (x : Tvm). x.number) u t how numbers ne xs ∙ live;
-      stay = stay_same R refl_R v tvm tvm refl refl;
+      stay = stay_same R refl_R v tvm tvm refl (λ e. e);
     })
     (cases_eq u t)
 
 pub tvm_stays : (R : Cpu → Cpu → Type 0) → ((cpu : Cpu) → R cpu cpu) → (u v : ℕ) (xs : List Tvm) → TvmStays R u v xs xs
-tvm_stays R refl_R u v xs tvm live = record { now = tvm; live = live; stay = stay_same R refl_R v tvm tvm refl refl }
+tvm_stays R refl_R u v xs tvm live = record { now = tvm; live = live; stay = stay_same R refl_R v tvm tvm refl (λ e. e) }
 
 pub tvm_then : (R : Cpu → Cpu → Type 0) → ((one two three : Cpu) → R one two → R two three → R one three) → (u v : ℕ) (xs ys zs : List Tvm) → TvmStays R u v xs ys → TvmStays R u v ys zs → TvmStays R u v xs zs
 tvm_then R then u v xs ys zs first second tvm live =

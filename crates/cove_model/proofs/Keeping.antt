@@ -95,26 +95,23 @@ keeps_new h t tvm g m found follows = absurd (none-some m found)
 
 -- ---- the TVMs of a state
 
--- the TVM under a number, where one TVM is changed
-pub keeps_on_tvm : (h t : ℕ) (how : Tvm → Tvm) → ((tvm : Tvm) → (how tvm).number ≡ tvm.number) → (xs : List Tvm)
-    → ((tvm : Tvm) → at (λ (k : Tvm). k.number) t xs ≡ Some tvm → Keeps h tvm (how tvm))
-    → (u : ℕ) → Keeps h (unwrap_or (at (λ (k : Tvm). k.number) u xs) (new_tvm u)) (unwrap_or (at (λ (k : Tvm). k.number) u (alter (λ (k : Tvm). k.number) t how xs)) (new_tvm u))
-keeps_on_tvm h t how numbers xs each u = ⊎_elim
-    (λ is. same u is)
-    (λ ne. subst (λ (o : Option Tvm). Keeps h (found u) (unwrap_or o (new_tvm u))) (sym (at_alter_other (λ (k : Tvm). k.number) u t how numbers ne xs)) (keeps_same h (found u) (found u) refl))
+-- the TVM under a number, where one TVM is changed: it, or another
+pub keeps_on_tvm : (h t u : ℕ) (how : Tvm → Tvm) → ((tvm : Tvm) → (how tvm).number ≡ tvm.number) → (xs : List Tvm)
+    → (u ≡ t → (tvm : Tvm) → at (λ (k : Tvm). k.number) t xs ≡ Some tvm → Keeps h tvm (how tvm))
+    → Keeps h (unwrap_or (at (λ (k : Tvm). k.number) u xs) (new_tvm u)) (unwrap_or (at (λ (k : Tvm). k.number) u (alter (λ (k : Tvm). k.number) t how xs)) (new_tvm u))
+keeps_on_tvm h t u how numbers xs each = ⊎_elim
+    (λ is. subst (λ k. Keeps h (found xs k) (found (alter (λ (x : Tvm). x.number) t how xs) k)) (sym is)
+    (subst (λ (o : Option Tvm). Keeps h (found xs t) (unwrap_or o (new_tvm t))) (sym (at_alter_same (λ (x : Tvm). x.number) t how numbers xs))
+    (go is (at (λ (k : Tvm). k.number) t xs) refl)))
+    (λ ne. subst (λ (o : Option Tvm). Keeps h (found xs u) (unwrap_or o (new_tvm u))) (sym (at_alter_other (λ (k : Tvm). k.number) u t how numbers ne xs)) (keeps_same h (found xs u) (found xs u) refl))
     (cases_eq u t)
   where
-    found : (v : ℕ) → Tvm
-    found v = unwrap_or (at (λ (k : Tvm). k.number) v xs) (new_tvm v)
+    found : (ys : List Tvm) (v : ℕ) → Tvm
+    found ys v = unwrap_or (at (λ (k : Tvm). k.number) v ys) (new_tvm v)
 
-    go : (v : ℕ) → v ≡ t → (o : Option Tvm) → at (λ (k : Tvm). k.number) v xs ≡ o → Keeps h (unwrap_or o (new_tvm v)) (unwrap_or (option_map how o) (new_tvm v))
-    go v is None e = keeps_new h v (new_tvm v)
-    go v is (Some tvm) e = each tvm (ap (λ k. at (λ (x : Tvm). x.number) k xs) (sym is) ∙ e)
-
-    same : (v : ℕ) → v ≡ t → Keeps h (unwrap_or (at (λ (k : Tvm). k.number) v xs) (new_tvm v)) (unwrap_or (at (λ (k : Tvm). k.number) v (alter (λ (k : Tvm). k.number) t how xs)) (new_tvm v))
-    same v is = subst (λ (o : Option Tvm). Keeps h (unwrap_or (at (λ (k : Tvm). k.number) v xs) (new_tvm v)) (unwrap_or o (new_tvm v)))
-        (sym (subst (λ k. at (λ (x : Tvm). x.number) v (alter (λ (x : Tvm). x.number) k how xs) ≡ option_map how (at (λ (x : Tvm). x.number) v xs)) is (at_alter_same (λ (x : Tvm). x.number) v how numbers xs)))
-        (go v is (at (λ (k : Tvm). k.number) v xs) refl)
+    go : u ≡ t → (o : Option Tvm) → at (λ (k : Tvm). k.number) t xs ≡ o → Keeps h (unwrap_or o (new_tvm t)) (unwrap_or (option_map how o) (new_tvm t))
+    go is None e = keeps_new h t (new_tvm t)
+    go is (Some tvm) e = each is tvm e
 
 -- ---- how mappings stand to a hart
 

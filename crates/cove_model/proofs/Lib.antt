@@ -69,3 +69,7 @@ pub mod Phases
 pub mod SharedPages
 pub mod Unbuilt
 pub mod Offering
+pub mod CheckedRuns
+pub mod Changes
+pub mod GuestChanges
+pub mod CallFrames

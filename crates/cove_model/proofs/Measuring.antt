@@ -1,45 +1,28 @@
 -- What events leave of a TVM: pages are measured while it is built, then its finalize record, and nothing after; and the guest
 -- pages of its mappings differ.
-use Rattle.std.proofs.Common.{◌≡◌, ℕ, ◌+◌, ◌/◌, Bool, true, false, cond, eqb, eqb-true, true≢false, not, map, List, [], ◌∷◌, ◌++◌, Option, Some, None, unwrap_or, option_map, refl, sym, ap, subst, ◌∙◌, inl, inr, ◌⊎◌, ⊎_elim, is_some, replicate, set as slice_set}
-use Rattle.cove_model.specs.Owners.{page_at, without, words_of, zeros}
-use Rattle.std.specs.List.{AllByRecursion, list_any, range_with_len}
-use Rattle.std.proofs.lemmas.List.{length-replicate, map-append}
-use Rattle.std.proofs.lemmas.List.FromFn.{length-map-range_with_len}
-use Rattle.std.specs.Option.{option_map_or}
+use Rattle.std.proofs.Common.{◌≡◌, ℕ, ◌+◌, Bool, true, false, cond, eqb, eqb-true, true≢false, not, List, [], ◌∷◌, ◌++◌, Option, Some, None, option_map, refl, sym, ap, subst, ◌∙◌, inl, inr, ◌⊎◌, ⊎_elim}
+use Rattle.cove_model.specs.Owners.{Owner}
+use Rattle.std.specs.List.{AllByRecursion}
 use Rattle.std.proofs.lemmas.Bool.{cases_eq, ne_eqb}
 use Rattle.std.proofs.lemmas.Option.{none-some, same_Some}
 use Rattle.cove_base.specs.Measurement.{Record, FinalizeRecord}
-use Rattle.cove_base.specs.Executions.{merged}
-use Rattle.cove_base.specs.Registers.{register}
 use Rattle.cove_base.specs.Scripts.{ScriptValue}
-use Rattle.cove_base.specs.declared.calls.GuestAct.{GuestAct}
-use Rattle.cove_base.specs.declared.calls.GuestAct.TheVariants as acts
-use Rattle.cove_base.specs.declared.calls.HostCall.{HostCall}
-use Rattle.cove_base.specs.declared.calls.HostCall.TheVariants.{Convert, Create, Region, Tables, Measured, Vcpu, Finalize, Zero, Shared, Run, Invalidate, TvmFence, Validate, Remove, Destroy, Bind, Unbind, Unbound, Inject}
 use Rattle.cove_base.specs.declared.events.Entry.{Entry}
 use Rattle.cove_base.specs.declared.events.Event.{Event}
-use Rattle.cove_base.specs.declared.events.Event.TheVariants as events
-use Rattle.cove_base.specs.declared.statuses.Reply.{Reply}
-use Rattle.cove_model.specs.States.{page_of, word_place, Seat, State, find_tvm, harts_inside, tvm_at}
+use Rattle.cove_model.specs.States.{State, find_tvm}
 use Rattle.cove_model.proofs.AtTheEnd.{after_push, from_end, line_tvms}
-use Rattle.cove_model.proofs.Distinct.{distinct_append, distinct_filter, distinct_range, keys_dropped, none_any, none_has, pages_of, pages_own, pages_remembered, pages_restood, pages_shared}
+use Rattle.cove_model.proofs.Changes.{Adds, Alters, Drops, Finalizes, Grows, Loses, Maps, Measures, NoTvm, Once, OneTvm, Pages, Restands, Rewords, TvmsChange, Twice, Unmapped, Unmeasured}
+use Rattle.cove_model.proofs.GuestChanges.{change_done}
+use Rattle.cove_model.proofs.Distinct.{distinct_filter, keys_dropped, pages_of, pages_remembered, pages_restood}
 use Rattle.cove_model.proofs.KeyedLemmas.{at_alter_other, at_alter_same, at_dropped}
 use Rattle.cove_model.proofs.Lists.{all_append}
-use Rattle.cove_model.proofs.Moves.{outcome_state}
-use Rattle.cove_model.proofs.Passing.{Passed, row_passed}
-use Rattle.cove_model.specs.Answers.{refusal, refusal_by, state_after_rule, state_by}
-use Rattle.cove_model.specs.Deeds.{Deed, Tires, Fetches, Executes, Loads, Stores as Writes, Asks, Waits, Traps, deed_of}
-use Rattle.cove_model.specs.GuestCalls.{evidence_at, guest_rule, guest_word, overwritten, words_in}
-use Rattle.cove_model.specs.GuestPages.{guests, is_among}
+use Rattle.cove_model.specs.GuestPages.{guests}
 use Rattle.cove_model.specs.Histories.{after}
-use Rattle.cove_model.specs.HostCalls.{page_records, rule, started, page_words_from}
 use Rattle.cove_model.specs.Keyed.{alter, at, dropped}
-use Rattle.cove_model.specs.Mappings.{blocked_standing, fenced_standing, left_standing, mapping_of, own_mappings, shared_mappings, unblocked_standing, with_mappings}
 use Rattle.cove_model.specs.Orderly.{AreDistinct, guests_of}
 use Rattle.cove_model.specs.Measured.{AreSealed, IsMeasured, IsPage}
-use Rattle.cove_model.specs.Offers.{cpu_of}
-use Rattle.cove_model.specs.Steps.{acted, after_event, done, done_at, guest_done, guest_stored, host_done, performed, stored_under}
-use Rattle.cove_model.specs.Tvms.{Backing, OwnPage, HostPage, Mapping, Tvm, new_tvm}
+use Rattle.cove_model.specs.Steps.{after_event, done}
+use Rattle.cove_model.specs.Tvms.{Mapping, Tvm, new_tvm}
 
 -- ---- what an event leaves of a TVM's records
 
@@ -115,19 +98,7 @@ were_altered t how numbers xs each u now e = ⊎_elim
         (go (at (λ (k : Tvm). k.number) t xs) refl
         (sym (at_alter_same (λ (k : Tvm). k.number) t how numbers xs) ∙ ap (λ k. at (λ (x : Tvm). x.number) k (alter (λ (x : Tvm). x.number) t how xs)) (sym is) ∙ e))
 
-were_plain : (t : ℕ) (how : Tvm → Tvm) → ((tvm : Tvm) → (how tvm).number ≡ tvm.number) → ((tvm : Tvm) → (how tvm).runnable ≡ tvm.runnable) → ((tvm : Tvm) → (how tvm).records ≡ tvm.records)
-    → ((tvm : Tvm) → guests_of (how tvm) ≡ guests_of tvm) → (xs : List Tvm) → AllWere xs (alter (λ (k : Tvm). k.number) t how xs)
-were_plain t how numbers runs records guests xs = were_altered t how numbers xs (λ tvm live. goes_same tvm (how tvm) (runs tvm) (records tvm) (guests tvm))
-
--- ---- calls of the host
-
--- a TVM that is found, by its check
-building_found : (S : State) (t : ℕ) (tvm : Tvm) → find_tvm S t ≡ Some tvm → (tvm_at S t).runnable ≡ false → tvm.runnable ≡ false
-building_found S t tvm live e = ap (λ (o : Option Tvm). (unwrap_or o (new_tvm t)).runnable) (sym live) ∙ e
-
-pages_recorded : (gpa : ℕ) (contents : List (List ℕ)) → AllByRecursion IsPage (page_records gpa contents)
-pages_recorded gpa [] = tt
-pages_recorded gpa (words ∷ rest) = (tt, pages_recorded (gpa + 4096) rest)
+-- ---- what is measured
 
 -- more pages, and the finalize record, of a TVM that is built
 goes_on : (tvm now : Tvm) (more : List Record) → tvm.runnable ≡ false → now.runnable ≡ tvm.runnable → now.records ≡ tvm.records ++ more → AllByRecursion IsPage more
@@ -142,15 +113,15 @@ goes_on tvm now more built runs records pages orders = record {
   orders = orders;
 }
 
-goes_finalized : (tvm now : Tvm) (pc arg : ℕ) → tvm.runnable ≡ false → now.runnable ≡ true → now.records ≡ tvm.records ++ FinalizeRecord pc arg ∷ [] → guests_of now ≡ guests_of tvm → Goes tvm now
-goes_finalized tvm now pc arg built runs records guests = record {
+goes_finalized : (tvm now : Tvm) (pc arg : ℕ) → tvm.runnable ≡ false → now.runnable ≡ true → now.records ≡ tvm.records ++ FinalizeRecord pc arg ∷ [] → (AreDistinct (guests_of tvm) → AreDistinct (guests_of now)) → Goes tvm now
+goes_finalized tvm now pc arg built runs records orders = record {
   keeps = λ m. record {
     building = λ e. absurd (true≢false (sym runs ∙ e));
     finalized = λ e. record { pages = tvm.records; pc = pc; arg = arg; all = m.building built; last = records };
   };
   runs = λ e. runs;
   fixed = λ e. absurd (true≢false (sym e ∙ built));
-  orders = λ d. subst AreDistinct (sym guests) d;
+  orders = orders;
 }
 
 -- what is found among one item more is found before, or is that item
@@ -185,151 +156,37 @@ found_kept t u xs now e = ⊎_elim
     (λ ne. sym (at_dropped (λ (k : Tvm). k.number) (λ n. eqb n t) u (ne_eqb u t ne) xs) ∙ e)
     (cases_eq u t)
 
--- new mappings of guest pages that had none
-mapped_apart : (S : State) (t : ℕ) (tvm : Tvm) (gpa n : ℕ) (new : List Mapping) → find_tvm S t ≡ Some tvm
-    → list_any (λ g. is_some (mapping_of (tvm_at S t) g)) (guests gpa n) ≡ false → pages_of new ≡ guests gpa n
-    → AreDistinct (guests_of tvm) → AreDistinct (pages_of (tvm.mappings ++ new))
-mapped_apart S t tvm gpa n new live unmapped pages d =
-    subst AreDistinct (sym (map-append (λ (m : Mapping). m.guest) tvm.mappings new ∙ ap (λ ks. guests_of tvm ++ ks) pages))
-    (distinct_append (guests_of tvm) (guests gpa n) d (distinct_range (gpa / 4096) n)
-    (λ k e. none_has (λ (m : Mapping). m.guest) k tvm.mappings
-    (is_none_of (mapping_of tvm k)
-    (ap (λ (o : Option Tvm). is_some (mapping_of (unwrap_or o (new_tvm t)) k)) (sym live)
-    ∙ none_any (λ g. is_some (mapping_of (tvm_at S t) g)) (guests gpa n) k unmapped e))))
-  where
-    is_none_of : (o : Option Mapping) → is_some o ≡ false → o ≡ None
-    is_none_of None q = refl
-    is_none_of (Some m) q = absurd (true≢false q)
+orders_maps : (Calm Found : Type 0) (S : State) (pages : List Owner) (h t : ℕ) (tvm now : Tvm) → Found → Maps Calm Found S pages h t tvm now → AreDistinct (guests_of tvm) → AreDistinct (guests_of now)
+orders_maps Calm Found S pages h t tvm now found (Unmapped e) d = subst (λ ms. AreDistinct (pages_of ms)) (sym e) d
+orders_maps Calm Found S pages h t tvm now found (Adds new e apart sound) d = subst (λ ms. AreDistinct (pages_of ms)) (sym e) (apart found d)
+orders_maps Calm Found S pages h t tvm now found (Restands test how e restless follows held) d = subst AreDistinct (sym (ap pages_of e ∙ pages_restood test how tvm.mappings)) d
+orders_maps Calm Found S pages h t tvm now found (Rewords g how e sizes) d = subst AreDistinct (sym (ap pages_of e ∙ pages_remembered g how tvm.mappings)) d
+orders_maps Calm Found S pages h t tvm now found (Drops test e restless gone) d =
+    subst AreDistinct (sym (ap pages_of e ∙ keys_dropped (λ (m : Mapping). m.guest) test tvm.mappings)) (distinct_filter (λ g. not (test g)) (guests_of tvm) d)
 
-pub came_call : (S : State) (h : ℕ) (call : HostCall) → Passed (rule S h call).checks → AllCame S.tvms (outcome_state S h call).tvms
-came_call S h (Create root state) ok t now e = ⊎_elim
+goes_change : (Found : Type 0) (tvm now : Tvm) → Found → (AreDistinct (guests_of tvm) → AreDistinct (guests_of now)) → Measures Found tvm now → Goes tvm now
+goes_change Found tvm now found orders (Unmeasured runs records) = goes_with tvm now runs records orders
+goes_change Found tvm now found orders (Pages more built runs records all) = goes_on tvm now more (built found) runs records all orders
+goes_change Found tvm now found orders (Finalizes pc arg built runs records) = goes_finalized tvm now pc arg (built found) runs records orders
+
+were_one : (Calm : Type 0) (S : State) (pages : List Owner) (h : ℕ) (xs ys : List Tvm) → OneTvm Calm S pages h xs ys → AllWere xs ys
+were_one Calm S pages h xs ys (NoTvm e) = subst (AllWere xs) (sym e) (were_same xs)
+were_one Calm S pages h xs ys (Alters t how e numbers each) = subst (AllWere xs) (sym e) (were_altered t how numbers xs
+    (λ tvm live. goes_change _ tvm (how tvm) live (orders_maps Calm _ S pages h t tvm (how tvm) live (each tvm).maps) (each tvm).measures))
+
+pub came_tvms : (Calm : Type 0) (S T : State) (h : ℕ) → TvmsChange Calm S T h → AllCame S.tvms T.tvms
+came_tvms Calm S T h (Once made one) = λ t now e. inl (were_one Calm S T.pages h S.tvms T.tvms one t now e)
+came_tvms Calm S T h (Twice made mid one two) = λ t now e. inl (were_then S.tvms mid T.tvms (were_one Calm S T.pages h S.tvms mid one) (were_one Calm S T.pages h mid T.tvms two) t now e)
+came_tvms Calm S T h (Grows made e) = subst (AllCame S.tvms) (sym e) (λ t now found. ⊎_elim
     (λ old. inl (were_same S.tvms t now old))
     (λ new. inr (new.0, new.1.0 ∙ ap new_tvm new.1.1))
-    (found_last t S.tvms (new_tvm (S.made + 1)) now e)
-came_call S h (Region t gpa len) ok u now e = inl (were_plain t _ (λ tvm. refl) (λ tvm. refl) (λ tvm. refl) (λ tvm. refl) S.tvms u now e)
-came_call S h (Tables t base n) ok u now e = inl (were_plain t _ (λ tvm. refl) (λ tvm. refl) (λ tvm. refl) (λ tvm. refl) S.tvms u now e)
-came_call S h (Measured t src dst n gpa) ok u now e =
-    let contents = page_words_from S src n in
-    let how : Tvm → Tvm = λ tvm. record (with_mappings gpa n (own_mappings (gpa / 4096) (dst / 4096) contents) tvm) { records = tvm.records ++ page_records gpa contents } in
-    inl (were_altered t how (λ tvm. refl) S.tvms
-    (λ tvm live. goes_on tvm (how tvm) (page_records gpa contents) (building_found S t tvm live ok.1.0) refl refl (pages_recorded gpa contents)
-    (mapped_apart S t tvm gpa n (own_mappings (gpa / 4096) (dst / 4096) contents) live ok.1.1.1.1.1.1.1.1.1.1.1.0
-    (pages_own (gpa / 4096) (dst / 4096) contents ∙ ap (range_with_len (gpa / 4096)) (length-map-range_with_len (λ p. words_of (page_at S.pages p)) (src / 4096) n)))) u now e)
-came_call S h (Vcpu t v state) ok u now e = inl (were_plain t _ (λ tvm. refl) (λ tvm. refl) (λ tvm. refl) (λ tvm. refl) S.tvms u now e)
-came_call S h (Finalize t pc arg) ok u now e =
-    let how : Tvm → Tvm = λ tvm. record tvm { runnable = true; records = tvm.records ++ FinalizeRecord pc arg ∷ []; cpus = map (started pc arg) tvm.cpus } in
-    inl (were_altered t how (λ tvm. refl) S.tvms (λ tvm live. goes_finalized tvm (how tvm) pc arg (building_found S t tvm live ok.1.0) refl refl refl) u now e)
-came_call S h (Zero t base n gpa) ok u now e =
-    let new = own_mappings (gpa / 4096) (base / 4096) (replicate n zeros) in
-    inl (were_altered t (with_mappings gpa n new) (λ tvm. refl) S.tvms
-    (λ tvm live. goes_with tvm (with_mappings gpa n new tvm) refl refl
-    (mapped_apart S t tvm gpa n new live ok.1.1.1.1.1.1.1.1.0
-    (pages_own (gpa / 4096) (base / 4096) (replicate n zeros) ∙ ap (range_with_len (gpa / 4096)) (length-replicate n zeros)))) u now e)
-came_call S h (Shared t base n gpa) ok u now e =
-    let new = shared_mappings (gpa / 4096) (base / 4096) n in
-    inl (were_altered t (with_mappings gpa n new) (λ tvm. refl) S.tvms
-    (λ tvm live. goes_with tvm (with_mappings gpa n new tvm) refl refl
-    (mapped_apart S t tvm gpa n new live ok.1.1.1.1.1.1.1.1.0 (pages_shared (gpa / 4096) (base / 4096) n))) u now e)
-came_call S h (Run t v fuel) ok u now e = inl (were_plain t _ (λ tvm. refl) (λ tvm. refl) (λ tvm. refl) (λ tvm. refl) S.tvms u now e)
-came_call S h (Invalidate t gpa n) ok u now e = inl (were_plain t _ (λ tvm. refl) (λ tvm. refl) (λ tvm. refl) (λ tvm. pages_restood (is_among gpa n) (blocked_standing (harts_inside S t)) tvm.mappings) S.tvms u now e)
-came_call S h (TvmFence t) ok u now e = inl (were_plain t _ (λ tvm. refl) (λ tvm. refl) (λ tvm. refl) (λ tvm. pages_restood (λ g. true) (fenced_standing (harts_inside S t)) tvm.mappings) S.tvms u now e)
-came_call S h (Validate t gpa n) ok u now e = inl (were_plain t _ (λ tvm. refl) (λ tvm. refl) (λ tvm. refl) (λ tvm. pages_restood (is_among gpa n) unblocked_standing tvm.mappings) S.tvms u now e)
-came_call S h (Remove t gpa n) ok u now e =
-    let how : Tvm → Tvm = λ tvm. record tvm { mappings = dropped (λ m. is_among gpa n m.guest) tvm.mappings } in
-    inl (were_altered t how (λ tvm. refl) S.tvms
-    (λ tvm live. goes_with tvm (how tvm) refl refl
-    (λ d. subst AreDistinct (sym (keys_dropped (λ (m : Mapping). m.guest) (is_among gpa n) tvm.mappings)) (distinct_filter (λ g. not (is_among gpa n g)) (guests_of tvm) d))) u now e)
-came_call S h (Destroy t) ok u now e = inl (were_same S.tvms u now (found_kept t u S.tvms now e))
-came_call S h (Bind t v hart file) ok u now e = inl (were_plain t _ (λ tvm. refl) (λ tvm. refl) (λ tvm. refl) (λ tvm. refl) S.tvms u now e)
-came_call S h (Unbind t v) ok u now e = inl (were_plain t _ (λ tvm. refl) (λ tvm. refl) (λ tvm. refl) (λ tvm. refl) S.tvms u now e)
-came_call S h (Unbound t v) ok u now e = inl (were_plain t _ (λ tvm. refl) (λ tvm. refl) (λ tvm. refl) (λ tvm. refl) S.tvms u now e)
-came_call S h (Inject t v id) ok u now e = inl (were_plain t _ (λ tvm. refl) (λ tvm. refl) (λ tvm. refl) (λ tvm. refl) S.tvms u now e)
-came_call S h (Convert base n) ok u now e = inl (were_same S.tvms u now e)
-came_call S h _ ok u now e = inl (were_same S.tvms u now e)
-
--- ---- events of guests
-
-were_stored : (S : State) (t addr word : ℕ) → AllWere S.tvms (guest_stored S t addr word).tvms
-were_stored S t addr word = go (mapping_of (tvm_at S t) (page_of addr))
-  where
-    under : (b : Backing) → AllWere S.tvms (stored_under S t addr word b).tvms
-    under (OwnPage page words) =
-        were_plain t _ (λ tvm. refl) (λ tvm. refl) (λ tvm. refl) (λ tvm. pages_remembered (page_of addr) (λ ws. slice_set ws (word_place addr) word) tvm.mappings) S.tvms
-    under (HostPage page) = were_same S.tvms
-
-    go : (o : Option Mapping) → AllWere S.tvms (option_map_or (λ (m : Mapping). stored_under S t addr word m.backing) o S).tvms
-    go None = were_same S.tvms
-    go (Some m) = under m.backing
-
-were_performed : (S : State) (seat : Seat) (deed : Deed) → AllWere S.tvms (performed S seat deed).tvms
-were_performed S seat (Executes rd value pc file) = were_plain seat.tvm _ (λ tvm. refl) (λ tvm. refl) (λ tvm. refl) (λ tvm. refl) S.tvms
-were_performed S seat (Loads addr size signed rd) = were_plain seat.tvm _ (λ tvm. refl) (λ tvm. refl) (λ tvm. refl) (λ tvm. refl) S.tvms
-were_performed S seat (Writes addr size value) =
-    let word = merged (guest_word S seat.tvm addr) addr size value in
-    let mid = guest_stored S seat.tvm addr word in
-    were_then S.tvms mid.tvms (performed S seat (Writes addr size value)).tvms (were_stored S seat.tvm addr word)
-    (were_plain seat.tvm _ (λ tvm. refl) (λ tvm. refl) (λ tvm. refl) (λ tvm. refl) mid.tvms)
-were_performed S seat Tires = were_same S.tvms
-were_performed S seat (Fetches addr) = were_same S.tvms
-were_performed S seat (Asks act) = were_same S.tvms
-were_performed S seat Waits = were_same S.tvms
-were_performed S seat (Traps cause) = were_same S.tvms
-
-were_act : (S : State) (h t a0 a1 : ℕ) (act : GuestAct) → AllWere S.tvms (guest_rule S h t a0 a1 act).outcome.state.tvms
-were_act S h t a0 a1 (acts.Share gpa len) =
-    were_plain t _ (λ tvm. refl) (λ tvm. refl) (λ tvm. refl) (λ tvm. pages_restood (is_among gpa (len / 4096)) (blocked_standing (without h (harts_inside S t))) tvm.mappings) S.tvms
-were_act S h t a0 a1 (acts.Unshare gpa len) =
-    were_plain t _ (λ tvm. refl) (λ tvm. refl) (λ tvm. refl) (λ tvm. pages_restood (is_among gpa (len / 4096)) (blocked_standing (without h (harts_inside S t))) tvm.mappings) S.tvms
-were_act S h t a0 a1 acts.Extend = were_plain t _ (λ tvm. refl) (λ tvm. refl) (λ tvm. refl) (λ tvm. refl) S.tvms
-were_act S h t a0 a1 acts.Evidence =
-    let how = overwritten (word_place a1) (words_in (evidence_at S t a0)) in
-    were_plain t _ (λ tvm. refl) (λ tvm. refl) (λ tvm. refl) (λ tvm. pages_remembered (page_of a1) how tvm.mappings) S.tvms
-were_act S h t a0 a1 (acts.Allow id) = were_plain t _ (λ tvm. refl) (λ tvm. refl) (λ tvm. refl) (λ tvm. refl) S.tvms
-were_act S h t a0 a1 (acts.Deny id) = were_plain t _ (λ tvm. refl) (λ tvm. refl) (λ tvm. refl) (λ tvm. refl) S.tvms
-were_act S h t a0 a1 acts.Other = were_same S.tvms
-
-were_by : (o : Option Reply) (S T : State) → AllWere S.tvms T.tvms → AllWere S.tvms (state_by o S T).tvms
-were_by None S T w = w
-were_by (Some reply) S T w = were_same S.tvms
-
-were_acted : (S : State) (h : ℕ) (seat : Seat) (act : GuestAct) → AllWere S.tvms (acted S h seat act).tvms
-were_acted S h seat act =
-    let x = (cpu_of S seat).x in
-    let r = guest_rule S h seat.tvm (register x 10) (register x 11) act in
-    let mid = state_after_rule S r in
-    were_then S.tvms mid.tvms (acted S h seat act).tvms
-    (were_by (refusal_by r) S r.outcome.state (were_act S h seat.tvm (register x 10) (register x 11) act))
-    (were_plain seat.tvm _ (λ tvm. refl) (λ tvm. refl) (λ tvm. refl) (λ tvm. refl) mid.tvms)
-
-were_guest : (S : State) (h : ℕ) (seat : Seat) (event : Event) → AllWere S.tvms (guest_done S h seat event).tvms
-were_guest S h seat (events.Fetch how) = were_plain seat.tvm _ (λ tvm. refl) (λ tvm. refl) (λ tvm. refl) (λ tvm. refl) S.tvms
-were_guest S h seat events.Exec = were_performed S seat (deed_of (cpu_of S seat))
-were_guest S h seat (events.Access how) = were_performed S seat (deed_of (cpu_of S seat))
-were_guest S h seat (events.Guest act reply) = were_acted S h seat act
-were_guest S h seat (events.Evidence quote) = were_acted S h seat GuestAct.Evidence
-were_guest S h seat (events.Exit exit) = were_plain seat.tvm _ (λ tvm. refl) (λ tvm. refl) (λ tvm. refl) (λ tvm. pages_restood (λ g. true) (left_standing h) tvm.mappings) S.tvms
-were_guest S h seat _ = were_same S.tvms
+    (found_last t S.tvms (new_tvm (S.made + 1)) now found))
+came_tvms Calm S T h (Loses t made e pages nobody restless) = subst (AllCame S.tvms) (sym e) (λ u now found. inl (were_same S.tvms u now (found_kept t u S.tvms now found)))
 
 -- ---- an event
 
-came_done : (S : State) (h : ℕ) (event : Event) → AllCame S.tvms (done S h event).tvms
-came_done S h event = go (S.seats h)
-  where
-    by : (o : Option Reply) (T : State) → (o ≡ None → AllCame S.tvms T.tvms) → AllCame S.tvms (state_by o S T).tvms
-    by None T accepted = accepted refl
-    by (Some reply) T accepted = λ t now e. inl (were_same S.tvms t now e)
-
-    host : (e : Event) → AllCame S.tvms (host_done S h e).tvms
-    host (events.Call call reply) = by (refusal S h call) (outcome_state S h call) (λ q. came_call S h call (row_passed S h call q))
-    host (events.Store addr value how) = λ t now e. inl (were_same S.tvms t now e)
-    host _ = λ t now e. inl (were_same S.tvms t now e)
-
-    go : (o : Option Seat) → AllCame S.tvms (done_at S h o event).tvms
-    go None = host event
-    go (Some seat) = λ t now e. inl (were_guest S h seat event t now e)
-
 pub came : (S : State) (h : ℕ) (event : Event) → AllCame S.tvms (after_event S h event).tvms
-came S h event t now e = came_done S h event t now (ap (at (λ (k : Tvm). k.number) t) (sym (line_tvms h ((done S h event).seats h) (done S h event))) ∙ e)
+came S h event t now e = came_tvms ⊥ S (done S h event) h (change_done S h event) t now (ap (at (λ (k : Tvm). k.number) t) (sym (line_tvms h ((done S h event).seats h) (done S h event))) ∙ e)
 
 -- ---- histories
 

@@ -3,7 +3,7 @@ use Rattle.cove_model.specs.Owners.{has, without}
 use Rattle.cove_model.specs.Sound.{Rises}
 use Rattle.cove_model.specs.States.{harts_below}
 use Rattle.cove_model.specs.Translations.{filled}
-use Rattle.std.proofs.Common.{List, [], arith, drop, eqb, false, inl, length, not, refl, suc, sym, true, zero, ℕ, ◌++◌, ◌+◌, ◌-◌, ◌<◌, ◌∙◌, ◌∷◌, ◌≡◌, ◌≤◌, ◌⊎◌}
+use Rattle.std.proofs.Common.{List, [], arith, drop, eqb, false, length, not, refl, suc, sym, true, zero, ℕ, ◌++◌, ◌+◌, ◌-◌, ◌<◌, ◌∙◌, ◌∷◌, ◌≡◌, ◌≤◌, ◌⊎◌}
 use Rattle.std.proofs.lemmas.Bool.{cond_both, or_cases, or_right}
 use Rattle.std.proofs.lemmas.Bool.Decides.{nat_tests}
 use Rattle.std.proofs.lemmas.List.Folds.{list_any-append}

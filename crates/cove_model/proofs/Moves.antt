@@ -1,20 +1,26 @@
 -- What an event does to a page.
-use Rattle.std.proofs.Common.{◌≡◌, ℕ, ◌+◌, ◌/◌, Bool, true, false, List, [], ◌∷◌, refl, sym, ap, subst, ◌∙◌, inl, inr, ◌⊎◌, ⊎_elim, nat_lt, length, arith, lt-ltb, suc, true≢false}
-use Rattle.std.proofs.lemmas.Bool.{cond-true, cond-false, and_parts, eqb-true}
+use Rattle.std.proofs.Common.{◌≡◌, ℕ, ◌+◌, ◌/◌, Bool, true, false, List, [], ◌∷◌, refl, sym, ap, subst, ◌∙◌, inl, inr, ◌⊎◌, ⊎_elim, nat_lt, length, arith, lt-ltb, suc, true≢false, eqb, eq-eqb, map, is_none}
+use Rattle.std.proofs.lemmas.Bool.{cond-true, cond-false, and_parts, eqb-true, or_left}
+use Rattle.std.proofs.lemmas.List.{map-append}
 use Rattle.cove_base.specs.declared.calls.HostCall.{HostCall}
 use Rattle.cove_base.specs.declared.calls.HostCall.TheVariants.{Convert, GlobalFence, LocalFence, Reclaim, Create, Tables, Measured, Vcpu, Zero, Remove, Destroy}
 use Rattle.cove_model.proofs.Runs.{change_cases, page_map}
-use Rattle.cove_model.specs.Owners.{Owner, Host, Converting, Free, Given, Purpose, AsRoot, AsState, AsTable, AsVcpu, AsData, fence_answered, change, converted, fenced, page_at, reclaimed, without, word_stored}
-use Rattle.cove_model.specs.States.{harts_below, harts_inside, State}
+use Rattle.cove_model.specs.Owners.{Owner, Host, Converting, Free, Given, Purpose, AsRoot, AsState, AsTable, AsVcpu, AsData, fence_answered, change, converted, fenced, has, page_at, reclaimed, without, word_stored}
+use Rattle.cove_model.specs.States.{find_tvm, harts_below, harts_inside, State}
 use Rattle.cove_model.proofs.PageRuns.{each_cases}
+use Rattle.cove_model.proofs.Distinct.{has_right, keys_altered, some_has}
 use Rattle.cove_model.proofs.Passing.{Passed}
+use Rattle.cove_model.specs.Keyed.{alter}
+use Rattle.cove_model.specs.Orderly.{numbers_of}
+use Rattle.cove_model.specs.Tvms.{Tvm, new_tvm}
 use Rattle.cove_model.specs.GuestPages.{is_among}
 use Rattle.cove_model.specs.HostCalls.{rule}
 use Rattle.cove_model.specs.Pages.{freed, given_to, is_data_of, is_given, removed}
 
--- a page is given as a root to a new TVM alone; and a page that is none of its memory is taken back only where no hart is inside
-abbrev pub IsNewRoot : State → (t : ℕ) → Purpose → Type 0
-IsNewRoot S t purpose = purpose ≡ AsRoot → t ≡ S.made + 1
+-- A page is given to a TVM that is live then, as a root to a new one alone; and a page that is none of its memory is taken back only where no hart is inside
+pub record IsGift (S T : State) (t : ℕ) (purpose : Purpose) : Type 0 where
+  pub new_root : purpose ≡ AsRoot → t ≡ S.made + 1
+  pub live : has t (numbers_of T) ≡ true
 
 abbrev pub IsReturnable : State → (t : ℕ) → Purpose → Type 0
 IsReturnable S t purpose = ((g : ℕ) × (purpose ≡ AsData g)) ⊎ (harts_inside S t ≡ [])
@@ -27,7 +33,7 @@ pub data Move (S T : State) (h : ℕ) (old new : Owner) : Type 0 where
   Stores : (place value : ℕ) → T.unanswered ≡ S.unanswered → new ≡ word_stored place value old → Move S T h old new
   Fences : S.unanswered ≡ [] → T.unanswered ≡ without h (harts_below S.harts) → new ≡ fenced h (without h (harts_below S.harts)) old → Move S T h old new
   Responds : T.unanswered ≡ without h S.unanswered → new ≡ fence_answered h old → Move S T h old new
-  Gives : (t : ℕ) (purpose : Purpose) → T.unanswered ≡ S.unanswered → IsNewRoot S t purpose → old ≡ Free → new ≡ Given t purpose → Move S T h old new
+  Gives : (t : ℕ) (purpose : Purpose) → T.unanswered ≡ S.unanswered → IsGift S T t purpose → old ≡ Free → new ≡ Given t purpose → Move S T h old new
   Returns : (t : ℕ) (purpose : Purpose) → T.unanswered ≡ S.unanswered → IsReturnable S t purpose → old ≡ Given t purpose → new ≡ Free → Move S T h old new
 
 -- ---- gifts
@@ -39,13 +45,16 @@ is_root purpose = false
 no_root : (purpose : Purpose) → is_root purpose ≡ false → purpose ≡ AsRoot → ⊥
 no_root purpose e q = true≢false (sym (ap is_root q) ∙ e)
 
+no_root_gift : (S T : State) (t : ℕ) (purpose : Purpose) → is_root purpose ≡ false → has t (numbers_of T) ≡ true → IsGift S T t purpose
+no_root_gift S T t purpose e live = record { new_root = λ q. absurd (no_root purpose e q); live = live }
+
 gift_cases : (t : ℕ) (purpose : Purpose) (o : Owner) → (given_to t purpose o ≡ o) ⊎ ((o ≡ Free) × (given_to t purpose o ≡ Given t purpose))
 gift_cases t purpose (Host words) = inl refl
 gift_cases t purpose (Converting held waiting words) = inl refl
 gift_cases t purpose Free = inr (refl, refl)
 gift_cases t purpose (Given u other) = inl refl
 
-pub gift : (S T : State) (h t : ℕ) (purpose : Purpose) (old new : Owner) → T.unanswered ≡ S.unanswered → IsNewRoot S t purpose → (new ≡ old) ⊎ (new ≡ given_to t purpose old) → Move S T h old new
+pub gift : (S T : State) (h t : ℕ) (purpose : Purpose) (old new : Owner) → T.unanswered ≡ S.unanswered → IsGift S T t purpose → (new ≡ old) ⊎ (new ≡ given_to t purpose old) → Move S T h old new
 gift S T h t purpose old new u root (inl e) = Same u e
 gift S T h t purpose old new u root (inr e) = go (gift_cases t purpose old)
   where
@@ -53,12 +62,12 @@ gift S T h t purpose old new u root (inr e) = go (gift_cases t purpose old)
     go (inl same) = Same u (e ∙ same)
     go (inr given) = Gives t purpose u root given.0 (e ∙ given.1)
 
-gift_each : (S T : State) (h t : ℕ) (purpose : ℕ → Purpose) (old new : Owner) → T.unanswered ≡ S.unanswered → ((i : ℕ) → IsNewRoot S t (purpose i)) → (new ≡ old) ⊎ ((i : ℕ) × (new ≡ given_to t (purpose i) old)) → Move S T h old new
+gift_each : (S T : State) (h t : ℕ) (purpose : ℕ → Purpose) (old new : Owner) → T.unanswered ≡ S.unanswered → ((i : ℕ) → IsGift S T t (purpose i)) → (new ≡ old) ⊎ ((i : ℕ) × (new ≡ given_to t (purpose i) old)) → Move S T h old new
 gift_each S T h t purpose old new u root (inl e) = Same u e
 gift_each S T h t purpose old new u root (inr e) = gift S T h t (purpose e.0) old new u (root e.0) (inr e.1)
 
 -- two gifts, one after the other
-gift_twice : (S T : State) (h t : ℕ) (one other : Purpose) (old mid new : Owner) → T.unanswered ≡ S.unanswered → IsNewRoot S t one → IsNewRoot S t other
+gift_twice : (S T : State) (h t : ℕ) (one other : Purpose) (old mid new : Owner) → T.unanswered ≡ S.unanswered → IsGift S T t one → IsGift S T t other
     → (mid ≡ old) ⊎ (mid ≡ given_to t one old) → (new ≡ mid) ⊎ (new ≡ given_to t other mid) → Move S T h old new
 gift_twice S T h t one other old mid new u root next first second = go (gift S T h t one old mid u root first)
   where
@@ -119,6 +128,11 @@ none_left (x ∷ xs) e = absurd (true_false (sym (lt-ltb 0 (suc (length xs)) (om
     true_false : true ≡ false → ⊥
     true_false q = cc
 
+-- a live TVM is so after one is changed
+live_after : (S T : State) (t : ℕ) (how : Tvm → Tvm) → ((tvm : Tvm) → (how tvm).number ≡ tvm.number) → T.tvms ≡ alter (λ (k : Tvm). k.number) t how S.tvms → is_none (find_tvm S t) ≡ false → has t (numbers_of T) ≡ true
+live_after S T t how numbers tvms live =
+    ap (λ xs. has t (map (λ (k : Tvm). k.number) xs)) tvms ∙ ap (has t) (keys_altered (λ (k : Tvm). k.number) t how numbers S.tvms) ∙ some_has (λ (k : Tvm). k.number) t S.tvms live
+
 -- the state after a call's row
 abbrev pub outcome_state : State → (h : ℕ) → HostCall → State
 outcome_state S h call = (rule S h call).outcome.state
@@ -133,21 +147,26 @@ move_call S h (Create root state) p ok =
     let T = outcome_state S h (Create root state) in
     let t = S.made + 1 in
     let mid = change (given_to t AsRoot) (root / 4096) 4 S.pages in
-    gift_twice S T h t AsRoot AsState (page_at S.pages p) (page_at mid p) (page_at T.pages p) refl (λ e. refl) (λ e. absurd (no_root AsState refl e))
+    let live : has t (numbers_of T) ≡ true = ap (has t) (map-append (λ (k : Tvm). k.number) S.tvms (new_tvm t ∷ [])) ∙ has_right t (numbers_of S) (t ∷ []) (or_left (eqb t t) false (eq-eqb t t refl)) in
+    gift_twice S T h t AsRoot AsState (page_at S.pages p) (page_at mid p) (page_at T.pages p) refl (record { new_root = λ e. refl; live = live }) (no_root_gift S T t AsState refl live)
     (change_cases (given_to t AsRoot) (root / 4096) 4 S.pages p) (change_cases (given_to t AsState) (state / 4096) 1 mid p)
 move_call S h (Tables t base n) p ok =
     let T = outcome_state S h (Tables t base n) in
-    gift S T h t AsTable (page_at S.pages p) (page_at T.pages p) refl (λ e. absurd (no_root AsTable refl e)) (change_cases (given_to t AsTable) (base / 4096) n S.pages p)
+    let live = live_after S T t _ (λ tvm. refl) refl ok.0 in
+    gift S T h t AsTable (page_at S.pages p) (page_at T.pages p) refl (no_root_gift S T t AsTable refl live) (change_cases (given_to t AsTable) (base / 4096) n S.pages p)
 move_call S h (Measured t src dst n gpa) p ok =
     let T = outcome_state S h (Measured t src dst n gpa) in
-    gift_each S T h t (λ i. AsData (gpa / 4096 + i)) (page_at S.pages p) (page_at T.pages p) refl (λ i e. absurd (no_root (AsData (gpa / 4096 + i)) refl e))
+    let live = live_after S T t _ (λ tvm. refl) refl ok.0 in
+    gift_each S T h t (λ i. AsData (gpa / 4096 + i)) (page_at S.pages p) (page_at T.pages p) refl (λ i. no_root_gift S T t (AsData (gpa / 4096 + i)) refl live)
     (each_cases (λ i. given_to t (AsData (gpa / 4096 + i))) (dst / 4096) n S.pages p)
 move_call S h (Vcpu t v state) p ok =
     let T = outcome_state S h (Vcpu t v state) in
-    gift S T h t AsVcpu (page_at S.pages p) (page_at T.pages p) refl (λ e. absurd (no_root AsVcpu refl e)) (change_cases (given_to t AsVcpu) (state / 4096) 1 S.pages p)
+    let live = live_after S T t _ (λ tvm. refl) refl ok.0 in
+    gift S T h t AsVcpu (page_at S.pages p) (page_at T.pages p) refl (no_root_gift S T t AsVcpu refl live) (change_cases (given_to t AsVcpu) (state / 4096) 1 S.pages p)
 move_call S h (Zero t base n gpa) p ok =
     let T = outcome_state S h (Zero t base n gpa) in
-    gift_each S T h t (λ i. AsData (gpa / 4096 + i)) (page_at S.pages p) (page_at T.pages p) refl (λ i e. absurd (no_root (AsData (gpa / 4096 + i)) refl e))
+    let live = live_after S T t _ (λ tvm. refl) refl ok.0 in
+    gift_each S T h t (λ i. AsData (gpa / 4096 + i)) (page_at S.pages p) (page_at T.pages p) refl (λ i. no_root_gift S T t (AsData (gpa / 4096 + i)) refl live)
     (each_cases (λ i. given_to t (AsData (gpa / 4096 + i))) (base / 4096) n S.pages p)
 move_call S h (Remove t gpa n) p ok =
     let T = outcome_state S h (Remove t gpa n) in

@@ -1,44 +1,29 @@
 -- Numbers of live TVMs differ, and pages are given to live TVMs alone.
-use Rattle.std.proofs.Common.{◌≡◌, ℕ, ◌+◌, ◌/◌, ◌≤◌, Bool, true, false, cond, eqb, eqb-true, eq-eqb, not, ◌||◌, true≢false, map, filter, List, [], ◌∷◌, ◌++◌, Option, Some, None, is_none, refl, sym, ap, subst, ◌∙◌, inl, inr, ◌⊎◌, ⊎_elim, arith, set as slice_set}
+use Rattle.std.proofs.Common.{◌≡◌, ℕ, ◌+◌, ◌≤◌, Bool, true, false, cond, eqb, eqb-true, not, ◌||◌, true≢false, map, filter, List, [], ◌∷◌, ◌++◌, Option, Some, None, refl, sym, ap, subst, ◌∙◌, inl, inr, ◌⊎◌, ⊎_elim, arith, set as slice_set}
 use Rattle.std.specs.List.{AllByRecursion}
-use Rattle.std.specs.Option.{option_map_or}
-use Rattle.std.proofs.lemmas.Bool.{cases_lt, or_left}
+use Rattle.std.proofs.lemmas.Bool.{cases_lt}
 use Rattle.std.proofs.lemmas.List.{map-append}
-use Rattle.cove_base.specs.Executions.{merged}
-use Rattle.cove_base.specs.Registers.{register}
 use Rattle.cove_base.specs.Scripts.{ScriptValue}
-use Rattle.cove_base.specs.declared.calls.GuestAct.{GuestAct}
-use Rattle.cove_base.specs.declared.calls.GuestAct.TheVariants as acts
 use Rattle.cove_base.specs.declared.calls.HostCall.{HostCall}
-use Rattle.cove_base.specs.declared.calls.HostCall.TheVariants.{Convert, GlobalFence, LocalFence, Reclaim, Create, Region, Tables, Measured, Vcpu, Finalize, Zero, Shared, Run, Invalidate, TvmFence, Validate, Remove, Destroy, Bind, Unbind, Unbound, Inject}
 use Rattle.cove_base.specs.declared.events.Entry.{Entry}
-use Rattle.cove_base.specs.declared.events.Event.{Event}
-use Rattle.cove_base.specs.declared.events.Event.TheVariants as events
-use Rattle.cove_base.specs.declared.statuses.Reply.{Reply}
-use Rattle.cove_model.proofs.Runs.{change_cases, page_map, opening_page, opening_past}
-use Rattle.cove_model.specs.Owners.{Owner, Purpose, Host, Converting, Free, Given, AsData, AsRoot, AsState, AsTable, AsVcpu, change, converted, fence_answered, fenced, has, page_at, reclaimed, settled, without, word_stored, zeros}
-use Rattle.cove_model.specs.Pages.{freed, is_given, given_to, is_data_of, removed}
-use Rattle.cove_model.specs.States.{harts_below, opening_words, page_of, word_place, Seat, State, find_tvm, opening, tvm_at}
+use Rattle.cove_model.proofs.Runs.{page_map, opening_page, opening_past}
+use Rattle.cove_model.specs.Owners.{Owner, Purpose, Host, Converting, Free, Given, converted, fence_answered, fenced, has, page_at, reclaimed, settled, without, word_stored, zeros}
+use Rattle.cove_model.specs.Pages.{freed}
+use Rattle.cove_model.specs.States.{harts_below, opening_words, Seat, State, opening}
 use Rattle.cove_model.specs.HostCalls.{rule}
-use Rattle.cove_model.specs.GuestPages.{is_among}
 use Rattle.cove_model.proofs.AtTheEnd.{after_push, from_end}
-use Rattle.cove_model.proofs.Distinct.{distinct_append, distinct_filter, has_kept, has_left, has_right, keys_altered, keys_dropped, some_has}
-use Rattle.cove_model.proofs.EventMoves.{Left, Put, Wrote, wrote_guest}
-use Rattle.cove_model.proofs.Measuring.{came_call, guests_differ}
-use Rattle.cove_model.proofs.PageRuns.{each_cases}
-use Rattle.cove_model.proofs.Passing.{Passed, row_passed}
+use Rattle.cove_model.proofs.Distinct.{distinct_append, distinct_filter, has_kept, has_left, keys_altered, keys_dropped}
+use Rattle.cove_model.proofs.Changes.{Alters, Grows, Loses, NoTvm, Once, OneTvm, TvmsChange, Twice, change_call}
+use Rattle.cove_model.proofs.EventMoves.{moves}
+use Rattle.cove_model.proofs.GuestChanges.{change_done}
+use Rattle.cove_model.proofs.Measuring.{came_tvms, guests_differ}
+use Rattle.cove_model.proofs.Passing.{Passed}
 use Rattle.cove_model.proofs.Lists.{all_append, all_weaker}
-use Rattle.cove_model.proofs.Moves.{outcome_state}
-use Rattle.cove_model.specs.Answers.{refusal, refusal_by, state_after_rule, state_by}
-use Rattle.cove_model.specs.Deeds.{Deed, Tires, Fetches, Executes, Loads, Stores as Writes, Asks, Waits, Traps, deed_of}
-use Rattle.cove_model.specs.GuestCalls.{guest_rule, guest_word}
+use Rattle.cove_model.proofs.Moves.{Move, Same, Converts, Reclaims, Stores, Fences, Responds, Gives, Returns, move_call, outcome_state}
 use Rattle.cove_model.specs.Histories.{after}
-use Rattle.cove_model.specs.Keyed.{alter}
-use Rattle.cove_model.specs.Mappings.{mapping_of}
-use Rattle.cove_model.specs.Offers.{cpu_of}
 use Rattle.cove_model.specs.Orderly.{AreDistinct, IsOrderly, guests_of, numbers_of}
-use Rattle.cove_model.specs.Steps.{acted, done, done_at, guest_done, guest_stored, host_done, left, line_ended, performed, stored_under}
-use Rattle.cove_model.specs.Tvms.{Backing, OwnPage, HostPage, Mapping, Tvm, new_tvm}
+use Rattle.cove_model.specs.Steps.{done, left, line_ended}
+use Rattle.cove_model.specs.Tvms.{Tvm, new_tvm}
 
 -- ---- how the numbers of the live TVMs change
 
@@ -47,10 +32,6 @@ pub data Renumbered (S T : State) : Type 0 where
   Added : T.made ≡ S.made + 1 → numbers_of T ≡ numbers_of S ++ (S.made + 1) ∷ [] → Renumbered S T
   Fewer : (test : ℕ → Bool) → T.made ≡ S.made → numbers_of T ≡ filter test (numbers_of S)
       → ((p u : ℕ) (purpose : Purpose) → page_at T.pages p ≡ Given u purpose → test u ≡ true) → Renumbered S T
-
--- one TVM is changed
-kept : (S T : State) (t : ℕ) (how : Tvm → Tvm) → ((tvm : Tvm) → (how tvm).number ≡ tvm.number) → T.made ≡ S.made → T.tvms ≡ alter (λ (k : Tvm). k.number) t how S.tvms → Renumbered S T
-kept S T t how numbers made tvms = Kept made (ap (map (λ (k : Tvm). k.number)) tvms ∙ keys_altered (λ (k : Tvm). k.number) t how numbers S.tvms)
 
 -- a page that a destroy leaves given is another TVM's
 freed_apart : (t u : ℕ) (purpose : Purpose) (o : Owner) → freed t o ≡ Given u purpose → not (eqb u t) ≡ true
@@ -78,116 +59,17 @@ freed_apart t u purpose (Given v role) e = go (eqb v t) refl e
     go true q r = absurd (free r)
     go false q r = ap (λ k. not (eqb k t)) (sym (same r)) ∙ ap not q
 
-kept_call : (S : State) (h : ℕ) (call : HostCall) → Renumbered S (outcome_state S h call)
-kept_call S h (Create root state) = Added refl (map-append (λ (k : Tvm). k.number) S.tvms (new_tvm (S.made + 1) ∷ []))
-kept_call S h (Region t gpa len) = kept S (outcome_state S h (Region t gpa len)) t _ (λ tvm. refl) refl refl
-kept_call S h (Tables t base n) = kept S (outcome_state S h (Tables t base n)) t _ (λ tvm. refl) refl refl
-kept_call S h (Measured t src dst n gpa) = kept S (outcome_state S h (Measured t src dst n gpa)) t _ (λ tvm. refl) refl refl
-kept_call S h (Vcpu t v state) = kept S (outcome_state S h (Vcpu t v state)) t _ (λ tvm. refl) refl refl
-kept_call S h (Finalize t pc arg) = kept S (outcome_state S h (Finalize t pc arg)) t _ (λ tvm. refl) refl refl
-kept_call S h (Zero t base n gpa) = kept S (outcome_state S h (Zero t base n gpa)) t _ (λ tvm. refl) refl refl
-kept_call S h (Shared t base n gpa) = kept S (outcome_state S h (Shared t base n gpa)) t _ (λ tvm. refl) refl refl
-kept_call S h (Run t v fuel) = kept S (outcome_state S h (Run t v fuel)) t _ (λ tvm. refl) refl refl
-kept_call S h (Invalidate t gpa n) = kept S (outcome_state S h (Invalidate t gpa n)) t _ (λ tvm. refl) refl refl
-kept_call S h (TvmFence t) = kept S (outcome_state S h (TvmFence t)) t _ (λ tvm. refl) refl refl
-kept_call S h (Validate t gpa n) = kept S (outcome_state S h (Validate t gpa n)) t _ (λ tvm. refl) refl refl
-kept_call S h (Remove t gpa n) = kept S (outcome_state S h (Remove t gpa n)) t _ (λ tvm. refl) refl refl
-kept_call S h (Destroy t) = Fewer (λ n. not (eqb n t)) refl (keys_dropped (λ (k : Tvm). k.number) (λ n. eqb n t) S.tvms)
-    (λ p u purpose e. freed_apart t u purpose (page_at S.pages p) (sym (page_map (freed t) refl S.pages p) ∙ e))
-kept_call S h (Bind t v hart file) = kept S (outcome_state S h (Bind t v hart file)) t _ (λ tvm. refl) refl refl
-kept_call S h (Unbind t v) = kept S (outcome_state S h (Unbind t v)) t _ (λ tvm. refl) refl refl
-kept_call S h (Unbound t v) = kept S (outcome_state S h (Unbound t v)) t _ (λ tvm. refl) refl refl
-kept_call S h (Inject t v id) = kept S (outcome_state S h (Inject t v id)) t _ (λ tvm. refl) refl refl
-kept_call S h (Convert base n) = Kept refl refl
-kept_call S h _ = Kept refl refl
+numbers_one : (Calm : Type 0) (S : State) (pages : List Owner) (h : ℕ) (xs ys : List Tvm) → OneTvm Calm S pages h xs ys → map (λ (k : Tvm). k.number) ys ≡ map (λ (k : Tvm). k.number) xs
+numbers_one Calm S pages h xs ys (NoTvm e) = ap (map (λ (k : Tvm). k.number)) e
+numbers_one Calm S pages h xs ys (Alters t how e numbers each) = ap (map (λ (k : Tvm). k.number)) e ∙ keys_altered (λ (k : Tvm). k.number) t how numbers xs
 
--- ---- events of guests keep the numbers
-
-record Same (S T : State) : Type 0 where
-  made : T.made ≡ S.made
-  numbers : numbers_of T ≡ numbers_of S
-
-same_refl : (S : State) → Same S S
-same_refl S = record { made = refl; numbers = refl }
-
-same_then : (S M T : State) → Same S M → Same M T → Same S T
-same_then S M T a b = record { made = b.made ∙ a.made; numbers = b.numbers ∙ a.numbers }
-
-same_one : (S T : State) (t : ℕ) (how : Tvm → Tvm) → ((tvm : Tvm) → (how tvm).number ≡ tvm.number) → T.made ≡ S.made → T.tvms ≡ alter (λ (k : Tvm). k.number) t how S.tvms → Same S T
-same_one S T t how numbers made tvms = record { made = made; numbers = ap (map (λ (k : Tvm). k.number)) tvms ∙ keys_altered (λ (k : Tvm). k.number) t how numbers S.tvms }
-
-same_stored : (S : State) (t addr word : ℕ) → Same S (guest_stored S t addr word)
-same_stored S t addr word = go (mapping_of (tvm_at S t) (page_of addr))
-  where
-    under : (b : Backing) → Same S (stored_under S t addr word b)
-    under (OwnPage page words) = same_one S (stored_under S t addr word (OwnPage page words)) t _ (λ tvm. refl) refl refl
-    under (HostPage page) = record { made = refl; numbers = refl }
-
-    go : (o : Option Mapping) → Same S (option_map_or (λ (m : Mapping). stored_under S t addr word m.backing) o S)
-    go None = same_refl S
-    go (Some m) = under m.backing
-
-same_performed : (S : State) (seat : Seat) (deed : Deed) → Same S (performed S seat deed)
-same_performed S seat (Executes rd value pc file) = same_one S (performed S seat (Executes rd value pc file)) seat.tvm _ (λ tvm. refl) refl refl
-same_performed S seat (Loads addr size signed rd) = same_one S (performed S seat (Loads addr size signed rd)) seat.tvm _ (λ tvm. refl) refl refl
-same_performed S seat (Writes addr size value) =
-    let word = merged (guest_word S seat.tvm addr) addr size value in
-    let mid = guest_stored S seat.tvm addr word in
-    same_then S mid (performed S seat (Writes addr size value)) (same_stored S seat.tvm addr word)
-    (same_one mid (performed S seat (Writes addr size value)) seat.tvm _ (λ tvm. refl) refl refl)
-same_performed S seat Tires = same_refl S
-same_performed S seat (Fetches addr) = same_refl S
-same_performed S seat (Asks act) = same_refl S
-same_performed S seat Waits = same_refl S
-same_performed S seat (Traps cause) = same_refl S
-
-same_act : (S : State) (h t a0 a1 : ℕ) (act : GuestAct) → Same S (guest_rule S h t a0 a1 act).outcome.state
-same_act S h t a0 a1 acts.Other = same_refl S
-same_act S h t a0 a1 (acts.Share gpa len) = same_one S (guest_rule S h t a0 a1 (acts.Share gpa len)).outcome.state t _ (λ tvm. refl) refl refl
-same_act S h t a0 a1 (acts.Unshare gpa len) = same_one S (guest_rule S h t a0 a1 (acts.Unshare gpa len)).outcome.state t _ (λ tvm. refl) refl refl
-same_act S h t a0 a1 acts.Extend = same_one S (guest_rule S h t a0 a1 acts.Extend).outcome.state t _ (λ tvm. refl) refl refl
-same_act S h t a0 a1 acts.Evidence = same_one S (guest_rule S h t a0 a1 acts.Evidence).outcome.state t _ (λ tvm. refl) refl refl
-same_act S h t a0 a1 (acts.Allow id) = same_one S (guest_rule S h t a0 a1 (acts.Allow id)).outcome.state t _ (λ tvm. refl) refl refl
-same_act S h t a0 a1 (acts.Deny id) = same_one S (guest_rule S h t a0 a1 (acts.Deny id)).outcome.state t _ (λ tvm. refl) refl refl
-
-same_acted : (S : State) (h : ℕ) (seat : Seat) (act : GuestAct) → Same S (acted S h seat act)
-same_acted S h seat act =
-    let x = (cpu_of S seat).x in
-    let r = guest_rule S h seat.tvm (register x 10) (register x 11) act in
-    let mid = state_after_rule S r in
-    same_then S mid (acted S h seat act) (by (refusal_by r) r.outcome.state (same_act S h seat.tvm (register x 10) (register x 11) act))
-    (same_one mid (acted S h seat act) seat.tvm _ (λ tvm. refl) refl refl)
-  where
-    by : (o : Option Reply) (T : State) → Same S T → Same S (state_by o S T)
-    by None T w = w
-    by (Some reply) T w = same_refl S
-
-same_guest : (S : State) (h : ℕ) (seat : Seat) (event : Event) → Same S (guest_done S h seat event)
-same_guest S h seat (events.Fetch how) = same_one S (guest_done S h seat (events.Fetch how)) seat.tvm _ (λ tvm. refl) refl refl
-same_guest S h seat events.Exec = same_performed S seat (deed_of (cpu_of S seat))
-same_guest S h seat (events.Access how) = same_performed S seat (deed_of (cpu_of S seat))
-same_guest S h seat (events.Guest act reply) = same_acted S h seat act
-same_guest S h seat (events.Evidence quote) = same_acted S h seat GuestAct.Evidence
-same_guest S h seat (events.Exit exit) = same_one S (guest_done S h seat (events.Exit exit)) seat.tvm _ (λ tvm. refl) refl refl
-same_guest S h seat _ = same_refl S
-
--- ---- an event
-
-renumbered : (S : State) (h : ℕ) (event : Event) → Renumbered S (done S h event)
-renumbered S h event = go (S.seats h)
-  where
-    by : (o : Option Reply) (T : State) → Renumbered S T → Renumbered S (state_by o S T)
-    by None T r = r
-    by (Some reply) T r = Kept refl refl
-
-    host : (e : Event) → Renumbered S (host_done S h e)
-    host (events.Call call reply) = by (refusal S h call) (outcome_state S h call) (kept_call S h call)
-    host (events.Store addr value how) = Kept refl refl
-    host _ = Kept refl refl
-
-    go : (o : Option Seat) → Renumbered S (done_at S h o event)
-    go None = host event
-    go (Some seat) = let s = same_guest S h seat event in Kept s.made s.numbers
+renumbered : (Calm : Type 0) (S T : State) (h : ℕ) → TvmsChange Calm S T h → Renumbered S T
+renumbered Calm S T h (Once made one) = Kept made (numbers_one Calm S T.pages h S.tvms T.tvms one)
+renumbered Calm S T h (Twice made mid one two) = Kept made (numbers_one Calm S T.pages h mid T.tvms two ∙ numbers_one Calm S T.pages h S.tvms mid one)
+renumbered Calm S T h (Grows made e) = Added made (ap (map (λ (k : Tvm). k.number)) e ∙ map-append (λ (k : Tvm). k.number) S.tvms (new_tvm (S.made + 1) ∷ []))
+renumbered Calm S T h (Loses t made e pages nobody restless) =
+    Fewer (λ n. not (eqb n t)) made (ap (map (λ (k : Tvm). k.number)) e ∙ keys_dropped (λ (k : Tvm). k.number) (λ n. eqb n t) S.tvms)
+    (λ p u purpose given. freed_apart t u purpose (page_at S.pages p) (sym (page_map (freed t) refl S.pages p) ∙ ap (λ ps. page_at ps p) (sym pages) ∙ given))
 
 -- live numbers differ, and none is above those that were made
 pub record AreNumbered (S : State) : Type 0 where
@@ -244,7 +126,7 @@ after_numbered script = from_end (λ H. AreNumbered (after script H))
     (λ H e more.
     let S = after script H in
     subst AreNumbered (sym (after_push script H e))
-    (numbered_line e.hart.0 ((done S e.hart.0 e.event).seats e.hart.0) (done S e.hart.0 e.event) (numbered S (done S e.hart.0 e.event) (renumbered S e.hart.0 e.event) more)))
+    (numbered_line e.hart.0 ((done S e.hart.0 e.event).seats e.hart.0) (done S e.hart.0 e.event) (numbered S (done S e.hart.0 e.event) (renumbered ⊥ S (done S e.hart.0 e.event) e.hart.0 (change_done S e.hart.0 e.event)) more)))
     (record { distinct = tt; made = tt })
 
 -- ---- pages are given to live TVMs
@@ -310,98 +192,22 @@ stored_none place value (Converting held waiting words) u purpose e = absurd (ot
 stored_none place value Free u purpose e = e
 stored_none place value (Given t role) u purpose e = e
 
-cut_none : (b : Bool) (o : Owner) (u : ℕ) (purpose : Purpose) → cond b Free o ≡ Given u purpose → o ≡ Given u purpose
-cut_none true o u purpose e = absurd (other e)
-  where
-    other : Free ≡ Given u purpose → ⊥
-    other q = cc
-cut_none false o u purpose e = e
-
--- a gift is to its TVM
-gift_to : (t : ℕ) (role : Purpose) (o : Owner) (u : ℕ) (purpose : Purpose) → given_to t role o ≡ Given u purpose → (o ≡ Given u purpose) ⊎ (t ≡ u)
-gift_to t role Free u purpose e = inr (same e)
+-- what a page that is given afterwards was: given to the same, or that is live
+origin : (S T : State) (h : ℕ) (old new : Owner) (u : ℕ) (purpose : Purpose) → Move S T h old new → new ≡ Given u purpose → (old ≡ Given u purpose) ⊎ (has u (numbers_of T) ≡ true)
+origin S T h old new u purpose (Same w q) e = inl (sym q ∙ e)
+origin S T h old new u purpose (Converts w q) e = inl (converted_none (harts_below S.harts) old u purpose (sym q ∙ e))
+origin S T h old new u purpose (Reclaims w q) e = inl (reclaimed_none old u purpose (sym q ∙ e))
+origin S T h old new u purpose (Stores place value w q) e = inl (stored_none place value old u purpose (sym q ∙ e))
+origin S T h old new u purpose (Fences all w q) e = inl (fenced_none h (without h (harts_below S.harts)) old u purpose (sym q ∙ e))
+origin S T h old new u purpose (Responds w q) e = inl (answered_none h old u purpose (sym q ∙ e))
+origin S T h old new u purpose (Gives t role w gift free q) e = inr (subst (λ k. has k (numbers_of T) ≡ true) (same (sym q ∙ e)) gift.live)
   where
     same : Given t role ≡ Given u purpose → t ≡ u
-    same q = cc
-gift_to t role (Host words) u purpose e = inl e
-gift_to t role (Converting held waiting words) u purpose e = inl e
-gift_to t role (Given v other) u purpose e = inl e
-
--- what a page that is given afterwards was: given to the same, or it is live
-abbrev Origin : (S T : State) (p u : ℕ) → Purpose → Type 0
-Origin S T p u purpose = (page_at S.pages p ≡ Given u purpose) ⊎ (has u (numbers_of T) ≡ true)
-
-same_page : (old new : Owner) (u : ℕ) (purpose : Purpose) (f : Owner → Owner) → GivesNone f → (new ≡ old) ⊎ (new ≡ f old) → new ≡ Given u purpose → old ≡ Given u purpose
-same_page old new u purpose f none (inl e) given = sym e ∙ given
-same_page old new u purpose f none (inr e) given = none old u purpose (sym e ∙ given)
-
-gift_page : (T : State) (t : ℕ) (role : Purpose) (old new : Owner) (u : ℕ) (purpose : Purpose) → has t (numbers_of T) ≡ true → (new ≡ old) ⊎ (new ≡ given_to t role old) → new ≡ Given u purpose
-    → (old ≡ Given u purpose) ⊎ (has u (numbers_of T) ≡ true)
-gift_page T t role old new u purpose live (inl e) given = inl (sym e ∙ given)
-gift_page T t role old new u purpose live (inr e) given =
-    ⊎_elim inl (λ is. inr (subst (λ k. has k (numbers_of T) ≡ true) is live)) (gift_to t role old u purpose (sym e ∙ given))
-
--- a live TVM is so after one is changed
-live_after : (S T : State) (t : ℕ) (how : Tvm → Tvm) → ((tvm : Tvm) → (how tvm).number ≡ tvm.number) → T.tvms ≡ alter (λ (k : Tvm). k.number) t how S.tvms → is_none (find_tvm S t) ≡ false → has t (numbers_of T) ≡ true
-live_after S T t how numbers tvms live =
-    ap (λ xs. has t (map (λ (k : Tvm). k.number) xs)) tvms ∙ ap (has t) (keys_altered (λ (k : Tvm). k.number) t how numbers S.tvms) ∙ some_has (λ (k : Tvm). k.number) t S.tvms live
-
-origin_call : (S : State) (h : ℕ) (call : HostCall) → Passed (rule S h call).checks → (p u : ℕ) (purpose : Purpose) → page_at (outcome_state S h call).pages p ≡ Given u purpose → Origin S (outcome_state S h call) p u purpose
-origin_call S h (Convert base n) ok p u purpose e = inl (same_page (page_at S.pages p) _ u purpose (converted (harts_below S.harts)) (converted_none (harts_below S.harts)) (change_cases (converted (harts_below S.harts)) (base / 4096) n S.pages p) e)
-origin_call S h GlobalFence ok p u purpose e =
-    inl (fenced_none h (without h (harts_below S.harts)) (page_at S.pages p) u purpose (sym (page_map (fenced h (without h (harts_below S.harts))) refl S.pages p) ∙ e))
-origin_call S h LocalFence ok p u purpose e = inl (answered_none h (page_at S.pages p) u purpose (sym (page_map (fence_answered h) refl S.pages p) ∙ e))
-origin_call S h (Reclaim base n) ok p u purpose e = inl (same_page (page_at S.pages p) _ u purpose reclaimed reclaimed_none (change_cases reclaimed (base / 4096) n S.pages p) e)
-origin_call S h (Create root state) ok p u purpose e =
-    let T = outcome_state S h (Create root state) in
-    let t = S.made + 1 in
-    let live : has t (numbers_of T) ≡ true = ap (has t) (map-append (λ (k : Tvm). k.number) S.tvms (new_tvm t ∷ [])) ∙ has_right t (numbers_of S) (t ∷ []) (or_left (eqb t t) false (eq-eqb t t refl)) in
-    let mid = change (given_to t AsRoot) (root / 4096) 4 S.pages in
-    ⊎_elim
-    (λ q. gift_page T t AsRoot (page_at S.pages p) (page_at mid p) u purpose live (change_cases (given_to t AsRoot) (root / 4096) 4 S.pages p) q)
-    inr
-    (gift_page T t AsState (page_at mid p) (page_at T.pages p) u purpose live (change_cases (given_to t AsState) (state / 4096) 1 mid p) e)
-origin_call S h (Tables t base n) ok p u purpose e =
-    let T = outcome_state S h (Tables t base n) in
-    gift_page T t AsTable (page_at S.pages p) (page_at T.pages p) u purpose (live_after S T t _ (λ tvm. refl) refl ok.0) (change_cases (given_to t AsTable) (base / 4096) n S.pages p) e
-origin_call S h (Measured t src dst n gpa) ok p u purpose e =
-    let T = outcome_state S h (Measured t src dst n gpa) in
-    let live = live_after S T t _ (λ tvm. refl) refl ok.0 in
-    ⊎_elim (λ q. inl (sym q ∙ e)) (λ q. gift_page T t (AsData (gpa / 4096 + q.0)) (page_at S.pages p) (page_at T.pages p) u purpose live (inr q.1) e)
-    (each_cases (λ i. given_to t (AsData (gpa / 4096 + i))) (dst / 4096) n S.pages p)
-origin_call S h (Vcpu t v state) ok p u purpose e =
-    let T = outcome_state S h (Vcpu t v state) in
-    gift_page T t AsVcpu (page_at S.pages p) (page_at T.pages p) u purpose (live_after S T t _ (λ tvm. refl) refl ok.0) (change_cases (given_to t AsVcpu) (state / 4096) 1 S.pages p) e
-origin_call S h (Zero t base n gpa) ok p u purpose e =
-    let T = outcome_state S h (Zero t base n gpa) in
-    let live = live_after S T t _ (λ tvm. refl) refl ok.0 in
-    ⊎_elim (λ q. inl (sym q ∙ e)) (λ q. gift_page T t (AsData (gpa / 4096 + q.0)) (page_at S.pages p) (page_at T.pages p) u purpose live (inr q.1) e)
-    (each_cases (λ i. given_to t (AsData (gpa / 4096 + i))) (base / 4096) n S.pages p)
-origin_call S h (Remove t gpa n) ok p u purpose e =
-    inl (cut_none (is_data_of t (is_among gpa n) (page_at S.pages p)) (page_at S.pages p) u purpose (sym (page_map (removed t (is_among gpa n)) refl S.pages p) ∙ e))
-origin_call S h (Destroy t) ok p u purpose e =
-    inl (cut_none (is_given t (page_at S.pages p)) (page_at S.pages p) u purpose (sym (page_map (freed t) refl S.pages p) ∙ e))
-origin_call S h _ ok p u purpose e = inl e
-
-origin_wrote : (S T : State) (p u : ℕ) (purpose : Purpose) → Wrote S T p → page_at T.pages p ≡ Given u purpose → Origin S T p u purpose
-origin_wrote S T p u purpose (Left a e) given = inl (sym e ∙ given)
-origin_wrote S T p u purpose (Put place value a e) given = inl (stored_none place value (page_at S.pages p) u purpose (sym e ∙ given))
-
-origin : (S : State) (h : ℕ) (event : Event) (p u : ℕ) (purpose : Purpose) → page_at (done S h event).pages p ≡ Given u purpose → Origin S (done S h event) p u purpose
-origin S h event p u purpose = go (S.seats h)
+    same r = cc
+origin S T h old new u purpose (Returns t role w left given q) e = absurd (other (sym q ∙ e))
   where
-    by : (o : Option Reply) (T : State) → (o ≡ None → page_at T.pages p ≡ Given u purpose → Origin S T p u purpose) → page_at (state_by o S T).pages p ≡ Given u purpose → Origin S (state_by o S T) p u purpose
-    by None T accepted e = accepted refl e
-    by (Some reply) T accepted e = inl e
-
-    host : (ev : Event) → page_at (host_done S h ev).pages p ≡ Given u purpose → Origin S (host_done S h ev) p u purpose
-    host (events.Call call reply) e = by (refusal S h call) (outcome_state S h call) (λ q. origin_call S h call (row_passed S h call q) p u purpose) e
-    host (events.Store addr value how) e = inl (same_page (page_at S.pages p) _ u purpose (word_stored (word_place addr) value) (stored_none (word_place addr) value) (change_cases (word_stored (word_place addr) value) (page_of addr) 1 S.pages p) e)
-    host _ e = inl e
-
-    go : (o : Option Seat) → page_at (done_at S h o event).pages p ≡ Given u purpose → Origin S (done_at S h o event) p u purpose
-    go None e = host event e
-    go (Some seat) e = origin_wrote S (guest_done S h seat event) p u purpose (wrote_guest S h seat p event) e
+    other : Free ≡ Given u purpose → ⊥
+    other r = cc
 
 abbrev AreLive : State → Type 0
 AreLive S = (p t : ℕ) (purpose : Purpose) → page_at S.pages p ≡ Given t purpose → has t (numbers_of S) ≡ true
@@ -429,7 +235,8 @@ after_live script = from_end (λ H. AreLive (after script H))
     let T = done S e.hart.0 e.event in
     subst AreLive (sym (after_push script H e))
     (live_line e.hart.0 (T.seats e.hart.0) T
-    (λ p t purpose given. ⊎_elim (λ old. lives S T (renumbered S e.hart.0 e.event) p t purpose given (more p t purpose old)) (λ live. live) (origin S e.hart.0 e.event p t purpose given))))
+    (λ p t purpose given. ⊎_elim (λ old. lives S T (renumbered ⊥ S (done S e.hart.0 e.event) e.hart.0 (change_done S e.hart.0 e.event)) p t purpose given (more p t purpose old)) (λ live. live)
+    (origin S T e.hart.0 (page_at S.pages p) (page_at T.pages p) t purpose (moves S e.hart.0 e.event p) given))))
     (λ p t purpose e. absurd (opening_none script p t purpose e))
 
 -- ---- all of it
@@ -443,7 +250,8 @@ orderly script H =
 pub orderly_call : (S : State) (h : ℕ) (call : HostCall) → Passed (rule S h call).checks → IsOrderly S → IsOrderly (outcome_state S h call)
 orderly_call S h call ok was =
     let T = outcome_state S h call in
-    let new = kept_call S h call in
+    let change = change_call S h call ok in
+    let new = renumbered ⊥ S T h change in
     let a = numbered S T new (record { distinct = was.numbers; made = was.made }) in
     record {
       numbers = a.distinct;
@@ -451,9 +259,9 @@ orderly_call S h call ok was =
       guests = λ t tvm live. ⊎_elim
           (λ old. old.goes.orders (was.guests t old.tvm old.live))
           (λ fresh. subst (λ x. AreDistinct (guests_of x)) (sym fresh.1) tt)
-          (came_call S h call ok t tvm live);
+          (came_tvms ⊥ S T h change t tvm live);
       given = λ p u purpose e. ⊎_elim
           (λ old. lives S T new p u purpose e (was.given p u purpose old))
           (λ live. live)
-          (origin_call S h call ok p u purpose e);
+          (origin S T h (page_at S.pages p) (page_at T.pages p) u purpose (move_call S h call p ok) e);
     }

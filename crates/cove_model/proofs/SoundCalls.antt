@@ -1,31 +1,26 @@
 -- An accepted call of the host leaves a sound state.
-use Rattle.std.proofs.Common.{◌≡◌, ℕ, zero, suc, cond, ◌+◌, ◌/◌, ◌<◌, ◌≤◌, Bool, true, false, ◌&&◌, ◌||◌, not, nat_le, nat_lt, eqb, map, flat_map, filter_map, List, [], ◌∷◌, ◌++◌, Option, Some, None, length, replicate, refl, sym, ap, subst, ◌∙◌, inl, inr, ◌⊎◌, ⊎_elim, arith, ltb-false, eqb-true, eq-eqb, true≢false}
-use Rattle.std.specs.List.{AllByRecursion, list_any, range_with_len, cons_option}
+use Rattle.std.proofs.Common.{◌≡◌, ℕ, cond, ◌+◌, ◌/◌, ◌<◌, ◌≤◌, Bool, true, false, ◌&&◌, ◌||◌, not, nat_le, nat_lt, eqb, map, flat_map, filter_map, List, [], ◌∷◌, ◌++◌, Option, Some, None, refl, sym, ap, subst, ◌∙◌, inl, inr, ◌⊎◌, ⊎_elim, eqb-true, eq-eqb, true≢false}
+use Rattle.std.specs.List.{AllByRecursion, list_any, cons_option}
 use Rattle.std.proofs.lemmas.Bool.{and_from, cases_lt, le-leb, lt-ltb}
-use Rattle.std.proofs.lemmas.List.{length-replicate}
-use Rattle.cove_base.specs.Ranges.{is_outside}
 use Rattle.cove_base.specs.declared.calls.HostCall.{HostCall}
-use Rattle.cove_base.specs.declared.calls.HostCall.TheVariants.{Convert, GlobalFence, LocalFence, Reclaim, Create, Region, Tables, Measured, Vcpu, Finalize, Zero, Shared, Run, Invalidate, TvmFence, Validate, Remove, Destroy, Kick, Info, Bind, Unbind, Unbound, Inject}
+use Rattle.cove_base.specs.declared.calls.HostCall.TheVariants.{Convert, GlobalFence, LocalFence, Reclaim, Create, Tables, Measured, Vcpu, Zero, Run, Remove, Destroy}
 use Rattle.cove_model.proofs.Members.{false-true}
-use Rattle.cove_model.proofs.Runs.{change_cases, change_outside, every_at, page_map, zeros_size}
-use Rattle.cove_model.specs.Owners.{Owner, Host, Converting, Free, Given, Purpose, AsRoot, AsState, AsTable, AsVcpu, AsData, fence_answered, change, converted, every, fenced, is_free, is_host, page_at, reclaimed, without, words_of, zeros}
-use Rattle.cove_model.specs.Sound.{Within, IsBacked, IsHeldWithin, IsSound, IsSoundMapping, IsSoundPage, IsSoundTvm}
-use Rattle.cove_model.specs.States.{harts_below, State, harts_inside, new_cpu, on_cpu, shown_page}
+use Rattle.cove_model.proofs.Runs.{change_cases, change_outside, page_map}
+use Rattle.cove_model.specs.Owners.{Owner, Host, Converting, Free, Given, Purpose, AsRoot, AsState, AsTable, AsVcpu, AsData, fence_answered, change, converted, fenced, is_host, page_at, reclaimed, without}
+use Rattle.cove_model.specs.Sound.{Within, IsBacked, IsHeldWithin, IsSound, IsSoundMapping, IsSoundTvm}
+use Rattle.cove_model.specs.States.{harts_below, State, harts_inside, shown_page}
+use Rattle.cove_model.proofs.Changes.{Adds, Alters, Drops, Grows, Loses, Maps, NoTvm, Once, OneTvm, Restands, Rewords, TvmsChange, Twice, Unmapped, change_call}
 use Rattle.cove_model.proofs.HartsInside.{inside_entered}
 use Rattle.cove_model.proofs.Lists.{all_append, all_filter, all_weaker}
 use Rattle.cove_model.proofs.Moves.{Move, move_call, outcome_state}
-use Rattle.cove_model.proofs.PageRuns.{each_inside}
 use Rattle.cove_model.proofs.Passing.{Passed}
-use Rattle.cove_model.proofs.SoundPages.{IsSteady, IsSteadyPage, board_move, rising_move, sound_move, steady_change, steady_each, steady_f, steady_map, steady_refl, steady_then}
-use Rattle.cove_model.proofs.SoundTvms.{AllSound, blocked_sound, dropped_sound, fenced_sound, own_sound, restood_sound, shared_sound, tvms_altered, tvms_moved, tvms_steady}
-use Rattle.cove_model.specs.GuestPages.{guests, is_among}
-use Rattle.cove_base.specs.Measurement.{FinalizeRecord}
-use Rattle.cove_model.specs.HostCalls.{giving_memory, page_records, rule, started, page_words_from}
-use Rattle.cove_base.specs.InterruptFiles.{raised}
+use Rattle.cove_model.proofs.SoundPages.{IsSteady, IsSteadyPage, backed_steady, board_move, rising_move, sound_move, steady_change, steady_each, steady_f, steady_map, steady_refl, steady_then}
+use Rattle.cove_model.proofs.SoundTvms.{AllSound, dropped_sound, remembered_sound, restood_sound, tvms_altered, tvms_moved}
+use Rattle.cove_model.specs.GuestPages.{is_among}
+use Rattle.cove_model.specs.HostCalls.{rule}
 use Rattle.cove_model.specs.Keyed.{alter, dropped}
-use Rattle.cove_model.specs.Mappings.{blocked_standing, fenced_standing, fenced_tvm, own_mappings, rebound, restood, shared_mappings, unblocked_standing, with_mappings}
 use Rattle.cove_model.specs.Pages.{freed, given_to, removed}
-use Rattle.cove_model.specs.Tvms.{Backing, OwnPage, HostPage, Mapping, Standing, Present, Blocked, Begun, NotBegun, Tvm, new_tvm}
+use Rattle.cove_model.specs.Tvms.{Backing, OwnPage, HostPage, Mapping, Standing, Present, Blocked, Tvm, new_tvm}
 
 -- a state is sound where its pages moved from those of a sound one, and its TVMs are
 pub sound_from : (S T : State) (h : ℕ) → T.harts ≡ S.harts → ((p : ℕ) → Move S T h (page_at S.pages p) (page_at T.pages p))
@@ -108,60 +103,6 @@ convert_tvms S T first n pages same (tvm ∷ xs) none all =
       convert_tvms S T first n pages same xs parts.1 all.1,
     )
 
--- ---- what the checks of runs say
-
-within_memory : (base n pages : ℕ) → is_outside base n pages ≡ false → base / 4096 + n ≤ pages
-within_memory base n pages e = ltb-false pages (base / 4096 + n) e
-
-pub not_false : (b : Bool) → not b ≡ false → b ≡ true
-not_false true e = refl
-not_false false e = false-true (sym e)
-
-free_page : (o : Owner) → is_free o ≡ true → o ≡ Free
-free_page Free e = refl
-free_page (Host words) e = false-true e
-free_page (Converting held waiting words) e = false-true e
-free_page (Given t purpose) e = false-true e
-
--- a page that was free is given where it was to be
-memory_given : (S : State) (t base n gpa : ℕ) → is_outside base n (length S.pages) ≡ false → not (every is_free (base / 4096) n S.pages) ≡ false
-    → (i : ℕ) → i < n → page_at (giving_memory t base n gpa S).pages (base / 4096 + i) ≡ Given t (AsData (gpa / 4096 + i))
-memory_given S t base n gpa inside free i below =
-    let bound = within_memory base n (length S.pages) inside in
-    let was = free_page (page_at S.pages (base / 4096 + i)) (every_at is_free (base / 4096) n S.pages (not_false (every is_free (base / 4096) n S.pages) free) (base / 4096 + i) (omega arith) (omega arith) (omega arith)) in
-    each_inside (λ k. given_to t (AsData (gpa / 4096 + k))) (base / 4096) n S.pages i below (omega arith)
-    ∙ ap (given_to t (AsData (gpa / 4096 + i))) was
-
--- the words of the host's pages are 512 each
-host_words : (S : State) → ((p : ℕ) → IsSoundPage S.harts S.unanswered (page_at S.pages p)) → (first n : ℕ)
-    → ((i : ℕ) → first ≤ i → i < first + n → is_host (page_at S.pages i) ≡ true)
-    → AllByRecursion (λ (words : List ℕ). length words ≡ 512) (map (λ p. words_of (page_at S.pages p)) (range_with_len first n))
-host_words S sound first zero hosts = tt
-host_words S sound first (suc n) hosts = (
-  one (page_at S.pages first) (sound first) (hosts first (omega arith) (omega arith)),
-  host_words S sound (first + 1) n (λ i low high. hosts i (omega arith) (omega arith)),
-)
-  where
-    one : (o : Owner) → IsSoundPage S.harts S.unanswered o → is_host o ≡ true → length (words_of o) ≡ 512
-    one (Host words) s e = s
-    one (Converting held waiting words) s e = false-true e
-    one Free s e = false-true e
-    one (Given t purpose) s e = false-true e
-
-all_hosts : (S : State) (base n : ℕ) → is_outside base n (length S.pages) ≡ false → not (every is_host (base / 4096) n S.pages) ≡ false
-    → (i : ℕ) → base / 4096 ≤ i → i < base / 4096 + n → is_host (page_at S.pages i) ≡ true
-all_hosts S base n inside hosts i low high =
-    let bound = within_memory base n (length S.pages) inside in
-    every_at is_host (base / 4096) n S.pages (not_false (every is_host (base / 4096) n S.pages) hosts) i low high (omega arith)
-
-length_words : (S : State) (first n : ℕ) → length (map (λ p. words_of (page_at S.pages p)) (range_with_len first n)) ≡ n
-length_words S first zero = refl
-length_words S first (suc n) = ap suc (length_words S (first + 1) n)
-
-zeros_all : (n : ℕ) → AllByRecursion (λ (words : List ℕ). length words ≡ 512) (replicate n zeros)
-zeros_all zero = tt
-zeros_all (suc n) = (zeros_size, zeros_all n)
-
 -- ---- removes and destroys
 
 removed_backed : (t : ℕ) (test : ℕ → Bool) (pages : List Owner) (u g : ℕ) (b : Backing) → (u ≡ t → test g ≡ false)
@@ -193,32 +134,59 @@ freed_backed t pages u g (HostPage page) other backed =
     kept Free e = false-true e
     kept (Given v purpose) e = false-true e
 
--- ---- each call
+-- ---- the TVMs, where what stands behind their mappings stays
 
-abbrev SoundAfter : State → (h : ℕ) → HostCall → Type 0
-SoundAfter S h call = S.seats h ≡ None → Passed (rule S h call).checks → IsSound S → IsSound (outcome_state S h call)
+sound_maps : (Calm Found : Type 0) (S : State) (pages : List Owner) (h t : ℕ) (tvm now : Tvm) → IsSound S → Maps Calm Found S pages h t tvm now
+    → AllSound pages (harts_inside S t) t tvm.mappings → AllSound pages (harts_inside S t) t now.mappings
+sound_maps Calm Found S pages h t tvm now sound (Unmapped e) all = subst (AllSound pages (harts_inside S t) t) (sym e) all
+sound_maps Calm Found S pages h t tvm now sound (Adds new e apart sounds) all =
+    subst (AllSound pages (harts_inside S t) t) (sym e) (all_append (IsSoundMapping pages (harts_inside S t) t) tvm.mappings new all (sounds sound))
+sound_maps Calm Found S pages h t tvm now sound (Restands test how e restless follows held) all =
+    subst (AllSound pages (harts_inside S t) t) (sym e) (restood_sound pages (harts_inside S t) t test how held tvm.mappings all)
+sound_maps Calm Found S pages h t tvm now sound (Rewords g how e sizes) all =
+    subst (AllSound pages (harts_inside S t) t) (sym e) (remembered_sound pages (harts_inside S t) t g how sizes tvm.mappings all)
+sound_maps Calm Found S pages h t tvm now sound (Drops test e restless gone) all =
+    subst (AllSound pages (harts_inside S t) t) (sym e) (dropped_sound pages pages (harts_inside S t) t test (λ g b kept backed. backed) tvm.mappings all)
 
--- a call that changes no page, or gives free ones away, and changes one TVM
-one_tvm : (S : State) (h : ℕ) (call : HostCall) (t : ℕ) (how : Tvm → Tvm)
-    → (outcome_state S h call).harts ≡ S.harts → ((u : ℕ) → harts_inside (outcome_state S h call) u ≡ harts_inside S u)
-    → (outcome_state S h call).tvms ≡ alter (λ tvm. tvm.number) t how S.tvms
-    → IsSteady S.pages (outcome_state S h call).pages
-    → ((tvm : Tvm) → (how tvm).number ≡ tvm.number)
-    → ((tvm : Tvm) → tvm.number ≡ t → AllSound (outcome_state S h call).pages (harts_inside (outcome_state S h call) t) t tvm.mappings → AllSound (outcome_state S h call).pages (harts_inside (outcome_state S h call) t) t (how tvm).mappings)
-    → SoundAfter S h call
-one_tvm S h call t how e same tvms steady keeps each outside ok sound =
-    let T = outcome_state S h call in
-    sound_from S T h e (λ p. move_call S h call p ok) sound
-    (subst (AllByRecursion (IsSoundTvm T)) (sym tvms) (tvms_altered T t how keeps each S.tvms (tvms_steady S T steady same S.tvms sound.tvms_sound)))
+-- the state with other pages
+abbrev on_pages : List Owner → State → State
+on_pages pages S = record S { pages = pages }
 
--- a call that leaves the TVMs
-no_tvm : (S : State) (h : ℕ) (call : HostCall)
-    → (outcome_state S h call).harts ≡ S.harts → ((u : ℕ) → harts_inside (outcome_state S h call) u ≡ harts_inside S u)
-    → (outcome_state S h call).tvms ≡ S.tvms → IsSteady S.pages (outcome_state S h call).pages → SoundAfter S h call
-no_tvm S h call e same tvms steady outside ok sound =
-    let T = outcome_state S h call in
-    sound_from S T h e (λ p. move_call S h call p ok) sound
-    (subst (AllByRecursion (IsSoundTvm T)) (sym tvms) (tvms_steady S T steady same S.tvms sound.tvms_sound))
+sound_one : (Calm : Type 0) (S : State) (pages : List Owner) (h : ℕ) (xs ys : List Tvm) → IsSound S → OneTvm Calm S pages h xs ys
+    → AllByRecursion (IsSoundTvm (on_pages pages S)) xs → AllByRecursion (IsSoundTvm (on_pages pages S)) ys
+sound_one Calm S pages h xs ys sound (NoTvm e) all = subst (AllByRecursion (IsSoundTvm (on_pages pages S))) (sym e) all
+sound_one Calm S pages h xs ys sound (Alters t how e numbers each) all = subst (AllByRecursion (IsSoundTvm (on_pages pages S))) (sym e)
+    (tvms_altered (on_pages pages S) t how numbers (λ tvm is. sound_maps Calm _ S pages h t tvm (how tvm) sound (each tvm).maps) xs all)
+
+sound_tvms : (Calm : Type 0) (S T : State) (h : ℕ) → IsSound S → TvmsChange Calm S T h
+    → AllByRecursion (IsSoundTvm (on_pages T.pages S)) S.tvms → AllByRecursion (IsSoundTvm (on_pages T.pages S)) T.tvms
+sound_tvms Calm S T h sound (Once made one) all = sound_one Calm S T.pages h S.tvms T.tvms sound one all
+sound_tvms Calm S T h sound (Twice made mid one two) all = sound_one Calm S T.pages h mid T.tvms sound two (sound_one Calm S T.pages h S.tvms mid sound one all)
+sound_tvms Calm S T h sound (Grows made e) all =
+    subst (AllByRecursion (IsSoundTvm (on_pages T.pages S))) (sym e) (all_append (IsSoundTvm (on_pages T.pages S)) S.tvms (new_tvm (S.made + 1) ∷ []) all (tt, tt))
+sound_tvms Calm S T h sound (Loses t made e pages nobody restless) all = subst (AllByRecursion (IsSoundTvm (on_pages T.pages S))) (sym e)
+    (all_filter (IsSoundTvm (on_pages T.pages S)) (IsSoundTvm (on_pages T.pages S)) (λ (tvm : Tvm). not (eqb tvm.number t)) (λ tvm kept each. each) S.tvms all)
+
+pub entered_held : (inside now : List ℕ) → Within inside now → (s : Standing) → IsHeldWithin inside s → IsHeldWithin now s
+entered_held inside now more Present held = tt
+entered_held inside now more (Blocked list None) held = λ k e. more k (held k e)
+entered_held inside now more (Blocked list (Some waiting)) held = held
+
+-- a change under which what is the host's stays so, what is given stays given, and those inside stay inside
+pub sound_steady : (S T : State) (h : ℕ) → T.harts ≡ S.harts → ((p : ℕ) → Move S T h (page_at S.pages p) (page_at T.pages p)) → IsSteady S.pages T.pages
+    → ((u : ℕ) → Within (harts_inside S u) (harts_inside T u)) → TvmsChange ⊥ S T h → IsSound S → IsSound T
+sound_steady S T h e moves steady inside change sound = sound_from S T h e moves sound
+    (tvms_moved (on_pages T.pages S) T (λ u g b backed. backed) (λ u s held. entered_held (harts_inside S u) (harts_inside T u) (inside u) s held) T.tvms
+    (sound_tvms ⊥ S T h sound change
+    (tvms_moved S (on_pages T.pages S) (backed_steady S.pages T.pages steady) (λ u s held. held) S.tvms sound.tvms_sound)))
+
+-- ---- a convert, a remove and a destroy are not steady
+
+abbrev IsSteadyCall : HostCall → Type 0
+IsSteadyCall (Convert base n) = ⊥
+IsSteadyCall (Remove t gpa n) = ⊥
+IsSteadyCall (Destroy t) = ⊥
+IsSteadyCall call = Unit {0}
 
 not_true : (b : Bool) → not b ≡ true → b ≡ false
 not_true true e = false-true e
@@ -252,95 +220,51 @@ remove_tvms S T t test pages same (tvm ∷ xs) all =
         other : tvm.number ≡ t → ⊥
         other is = true≢false (sym (eq-eqb tvm.number t is) ∙ e)
 
-pub entered_held : (inside now : List ℕ) → Within inside now → (s : Standing) → IsHeldWithin inside s → IsHeldWithin now s
-entered_held inside now more Present held = tt
-entered_held inside now more (Blocked list None) held = λ k e. more k (held k e)
-entered_held inside now more (Blocked list (Some waiting)) held = held
-
 -- gifts, fences and a reclaim are steady
 steady_gift : (t : ℕ) (purpose : Purpose) (o : Owner) → IsSteadyPage o (given_to t purpose o)
 steady_gift t purpose o = steady_f (given_to t purpose) (λ words. refl) (λ u other. refl) o
 
-pub sound_call : (S : State) (h : ℕ) (call : HostCall) → SoundAfter S h call
+steady_call : (S : State) (h : ℕ) (call : HostCall) → IsSteadyCall call → IsSteady S.pages (outcome_state S h call).pages
+steady_call S h (Convert base n) steady = absurd steady
+steady_call S h GlobalFence steady =
+    steady_map (fenced h (without h (harts_below S.harts))) refl S.pages (steady_f (fenced h (without h (harts_below S.harts))) (λ words. refl) (λ t purpose. refl))
+steady_call S h LocalFence steady = steady_map (fence_answered h) refl S.pages (steady_f (fence_answered h) (λ words. refl) (λ t purpose. refl))
+steady_call S h (Reclaim base n) steady = steady_change reclaimed (base / 4096) n S.pages (steady_f reclaimed (λ words. refl) (λ t purpose. refl))
+steady_call S h (Create root state) steady =
+    let t = S.made + 1 in
+    let mid = change (given_to t AsRoot) (root / 4096) 4 S.pages in
+    steady_then S.pages mid (outcome_state S h (Create root state)).pages
+    (steady_change (given_to t AsRoot) (root / 4096) 4 S.pages (steady_gift t AsRoot)) (steady_change (given_to t AsState) (state / 4096) 1 mid (steady_gift t AsState))
+steady_call S h (Tables t base n) steady = steady_change (given_to t AsTable) (base / 4096) n S.pages (steady_gift t AsTable)
+steady_call S h (Measured t src dst n gpa) steady =
+    steady_each (λ i. given_to t (AsData (gpa / 4096 + i))) (dst / 4096) n S.pages (λ i. steady_gift t (AsData (gpa / 4096 + i)))
+steady_call S h (Vcpu t v state) steady = steady_change (given_to t AsVcpu) (state / 4096) 1 S.pages (steady_gift t AsVcpu)
+steady_call S h (Zero t base n gpa) steady =
+    steady_each (λ i. given_to t (AsData (gpa / 4096 + i))) (base / 4096) n S.pages (λ i. steady_gift t (AsData (gpa / 4096 + i)))
+steady_call S h (Remove t gpa n) steady = absurd steady
+steady_call S h (Destroy t) steady = absurd steady
+steady_call S h call steady = steady_refl S.pages
+
+inside_call : (S : State) (h : ℕ) (call : HostCall) → S.seats h ≡ None → (u : ℕ) → Within (harts_inside S u) (harts_inside (outcome_state S h call) u)
+inside_call S h (Run t v fuel) outside u = inside_entered S (outcome_state S h (Run t v fuel)) h (record { tvm = t; cpu = v }) refl refl outside u
+inside_call S h (Convert base n) outside u = λ k e. e
+inside_call S h call outside u = λ k e. e
+
+harts_call : (S : State) (h : ℕ) (call : HostCall) → (outcome_state S h call).harts ≡ S.harts
+harts_call S h (Convert base n) = refl
+harts_call S h call = refl
+
+-- ---- each call
+
+steady_sound : (S : State) (h : ℕ) (call : HostCall) → IsSteadyCall call → S.seats h ≡ None → Passed (rule S h call).checks → IsSound S → IsSound (outcome_state S h call)
+steady_sound S h call steady outside ok sound =
+    sound_steady S (outcome_state S h call) h (harts_call S h call) (λ p. move_call S h call p ok) (steady_call S h call steady) (inside_call S h call outside) (change_call S h call ok) sound
+
+pub sound_call : (S : State) (h : ℕ) (call : HostCall) → S.seats h ≡ None → Passed (rule S h call).checks → IsSound S → IsSound (outcome_state S h call)
 sound_call S h (Convert base n) outside ok sound =
     let T = outcome_state S h (Convert base n) in
     sound_from S T h refl (λ p. move_call S h (Convert base n) p ok) sound
     (convert_tvms S T (base / 4096) n refl (λ t. refl) S.tvms ok.1.1.1.1.0 sound.tvms_sound)
-sound_call S h GlobalFence outside ok sound =
-    no_tvm S h GlobalFence refl (λ t. refl) refl
-    (steady_map (fenced h (without h (harts_below S.harts))) refl S.pages (steady_f (fenced h (without h (harts_below S.harts))) (λ words. refl) (λ t purpose. refl))) outside ok sound
-sound_call S h LocalFence outside ok sound =
-    no_tvm S h LocalFence refl (λ t. refl) refl (steady_map (fence_answered h) refl S.pages (steady_f (fence_answered h) (λ words. refl) (λ t purpose. refl))) outside ok sound
-sound_call S h (Reclaim base n) outside ok sound =
-    no_tvm S h (Reclaim base n) refl (λ t. refl) refl
-    (steady_change reclaimed (base / 4096) n S.pages (steady_f reclaimed (λ words. refl) (λ t purpose. refl))) outside ok sound
-sound_call S h (Create root state) outside ok sound =
-    let T = outcome_state S h (Create root state) in
-    let t = S.made + 1 in
-    let mid = change (given_to t AsRoot) (root / 4096) 4 S.pages in
-    let steady : IsSteady S.pages T.pages = steady_then S.pages mid T.pages
-    (steady_change (given_to t AsRoot) (root / 4096) 4 S.pages (steady_gift t AsRoot))
-    (steady_change (given_to t AsState) (state / 4096) 1 mid (steady_gift t AsState)) in
-    sound_from S T h refl (λ p. move_call S h (Create root state) p ok) sound
-    (all_append (IsSoundTvm T) S.tvms (new_tvm t ∷ []) (tvms_steady S T steady (λ u. refl) S.tvms sound.tvms_sound) (tt, tt))
-sound_call S h (Region t gpa len) outside ok sound =
-    one_tvm S h (Region t gpa len) t (λ tvm. record tvm { regions = tvm.regions ++ record { first = gpa / 4096; count = len / 4096 } ∷ [] })
-    refl (λ u. refl) refl (steady_refl S.pages) (λ tvm. refl) (λ tvm is all. all) outside ok sound
-sound_call S h (Tables t base n) outside ok sound =
-    one_tvm S h (Tables t base n) t (λ tvm. record tvm { tables = tvm.tables ++ guests base n })
-    refl (λ u. refl) refl (steady_change (given_to t AsTable) (base / 4096) n S.pages (steady_gift t AsTable)) (λ tvm. refl) (λ tvm is all. all) outside ok sound
-sound_call S h (Measured t src dst n gpa) outside ok sound =
-    let contents = page_words_from S src n in
-    let T = outcome_state S h (Measured t src dst n gpa) in
-    let size = length_words S (src / 4096) n in
-    let sizes = host_words S sound.pages_sound (src / 4096) n (all_hosts S src n ok.1.1.1.1.1.1.0 ok.1.1.1.1.1.1.1.1.0) in
-    let new : AllSound T.pages (harts_inside T t) t (own_mappings (gpa / 4096) (dst / 4096) contents) =
-    own_sound T.pages (harts_inside T t) t (gpa / 4096) (dst / 4096) contents (λ i below. memory_given S t dst n gpa ok.1.1.1.1.1.1.1.0 ok.1.1.1.1.1.1.1.1.1.0 i (omega arith)) sizes in
-    one_tvm S h (Measured t src dst n gpa) t
-    (λ tvm. record (with_mappings gpa n (own_mappings (gpa / 4096) (dst / 4096) contents) tvm) { records = tvm.records ++ page_records gpa contents })
-    refl (λ u. refl) refl
-    (steady_each (λ i. given_to t (AsData (gpa / 4096 + i))) (dst / 4096) n S.pages (λ i. steady_gift t (AsData (gpa / 4096 + i))))
-    (λ tvm. refl) (λ tvm is all. all_append (IsSoundMapping T.pages (harts_inside T t) t) tvm.mappings (own_mappings (gpa / 4096) (dst / 4096) contents) all new) outside ok sound
-sound_call S h (Vcpu t v state) outside ok sound =
-    one_tvm S h (Vcpu t v state) t (λ tvm. record tvm { cpus = tvm.cpus ++ new_cpu v ∷ [] })
-    refl (λ u. refl) refl (steady_change (given_to t AsVcpu) (state / 4096) 1 S.pages (steady_gift t AsVcpu)) (λ tvm. refl) (λ tvm is all. all) outside ok sound
-sound_call S h (Finalize t pc arg) outside ok sound =
-    one_tvm S h (Finalize t pc arg) t
-    (λ tvm. record tvm { runnable = true; records = tvm.records ++ FinalizeRecord pc arg ∷ []; cpus = map (started pc arg) tvm.cpus })
-    refl (λ u. refl) refl (steady_refl S.pages) (λ tvm. refl) (λ tvm is all. all) outside ok sound
-sound_call S h (Zero t base n gpa) outside ok sound =
-    let T = outcome_state S h (Zero t base n gpa) in
-    let size = length-replicate {A = List ℕ} n zeros in
-    let new : AllSound T.pages (harts_inside T t) t (own_mappings (gpa / 4096) (base / 4096) (replicate n zeros)) =
-    own_sound T.pages (harts_inside T t) t (gpa / 4096) (base / 4096) (replicate n zeros) (λ i below. memory_given S t base n gpa ok.1.1.1.1.1.0 ok.1.1.1.1.1.1.0 i (omega arith)) (zeros_all n) in
-    one_tvm S h (Zero t base n gpa) t (with_mappings gpa n (own_mappings (gpa / 4096) (base / 4096) (replicate n zeros)))
-    refl (λ u. refl) refl
-    (steady_each (λ i. given_to t (AsData (gpa / 4096 + i))) (base / 4096) n S.pages (λ i. steady_gift t (AsData (gpa / 4096 + i))))
-    (λ tvm. refl) (λ tvm is all. all_append (IsSoundMapping T.pages (harts_inside T t) t) tvm.mappings (own_mappings (gpa / 4096) (base / 4096) (replicate n zeros)) all new) outside ok sound
-sound_call S h (Shared t base n gpa) outside ok sound =
-    let T = outcome_state S h (Shared t base n gpa) in
-    let new : AllSound T.pages (harts_inside T t) t (shared_mappings (gpa / 4096) (base / 4096) n) =
-    shared_sound T.pages (harts_inside T t) t (gpa / 4096) (base / 4096) n (λ i below. all_hosts S base n ok.1.1.1.1.1.0 ok.1.1.1.1.1.1.0 (base / 4096 + i) (omega arith) (omega arith)) in
-    one_tvm S h (Shared t base n gpa) t (with_mappings gpa n (shared_mappings (gpa / 4096) (base / 4096) n))
-    refl (λ u. refl) refl (steady_refl S.pages)
-    (λ tvm. refl) (λ tvm is all. all_append (IsSoundMapping T.pages (harts_inside T t) t) tvm.mappings (shared_mappings (gpa / 4096) (base / 4096) n) all new) outside ok sound
-sound_call S h (Run t v fuel) outside ok sound =
-    let T = outcome_state S h (Run t v fuel) in
-    sound_from S T h refl (λ p. move_call S h (Run t v fuel) p ok) sound
-    (tvms_altered T t (on_cpu v (λ cpu. record cpu { fuel = fuel; latched = None })) (λ tvm. refl) (λ tvm is all. all) S.tvms
-    (tvms_moved S T (λ u g b backed. backed) (λ u s held. entered_held (harts_inside S u) (harts_inside T u) (inside_entered S T h (record { tvm = t; cpu = v }) refl refl outside u) s held) S.tvms sound.tvms_sound))
-sound_call S h (Invalidate t gpa n) outside ok sound =
-    one_tvm S h (Invalidate t gpa n) t (λ tvm. record tvm { mappings = restood (is_among gpa n) (blocked_standing (harts_inside S t)) tvm.mappings })
-    refl (λ u. refl) refl (steady_refl S.pages) (λ tvm. refl)
-    (λ tvm is all. restood_sound S.pages (harts_inside S t) t (is_among gpa n) (blocked_standing (harts_inside S t)) (blocked_sound (harts_inside S t) (harts_inside S t) (λ k e. e)) tvm.mappings all) outside ok sound
-sound_call S h (TvmFence t) outside ok sound =
-    one_tvm S h (TvmFence t) t (fenced_tvm (harts_inside S t))
-    refl (λ u. refl) refl (steady_refl S.pages) (λ tvm. refl)
-    (λ tvm is all. restood_sound S.pages (harts_inside S t) t (λ g. true) (fenced_standing (harts_inside S t)) (fenced_sound (harts_inside S t)) tvm.mappings all) outside ok sound
-sound_call S h (Validate t gpa n) outside ok sound =
-    one_tvm S h (Validate t gpa n) t (λ tvm. record tvm { mappings = restood (is_among gpa n) unblocked_standing tvm.mappings })
-    refl (λ u. refl) refl (steady_refl S.pages) (λ tvm. refl)
-    (λ tvm is all. restood_sound S.pages (harts_inside S t) t (is_among gpa n) unblocked_standing (λ s held. tt) tvm.mappings all) outside ok sound
 sound_call S h (Remove t gpa n) outside ok sound =
     let T = outcome_state S h (Remove t gpa n) in
     sound_from S T h refl (λ p. move_call S h (Remove t gpa n) p ok) sound
@@ -352,14 +276,4 @@ sound_call S h (Destroy t) outside ok sound =
     (λ tvm kept each. all_weaker (IsSoundMapping S.pages (harts_inside S tvm.number) tvm.number) (IsSoundMapping T.pages (harts_inside S tvm.number) tvm.number)
     (λ m s. record { held_within = s.held_within; backed = freed_backed t S.pages tvm.number m.guest m.backing (not_true (eqb tvm.number t) kept) s.backed }) tvm.mappings each)
     S.tvms sound.tvms_sound)
-sound_call S h (Kick hart) outside ok sound = no_tvm S h (Kick hart) refl (λ t. refl) refl (steady_refl S.pages) outside ok sound
-sound_call S h Info outside ok sound = no_tvm S h Info refl (λ t. refl) refl (steady_refl S.pages) outside ok sound
-sound_call S h (Bind t v hart file) outside ok sound =
-    one_tvm S h (Bind t v hart file) t (on_cpu v (λ cpu. record cpu { binding = Some (record { hart = hart; file = file; unbinding = NotBegun }) }))
-    refl (λ u. refl) refl (steady_refl S.pages) (λ tvm. refl) (λ tvm is all. all) outside ok sound
-sound_call S h (Unbind t v) outside ok sound =
-    one_tvm S h (Unbind t v) t (on_cpu v (rebound (λ unbinding. Begun None))) refl (λ u. refl) refl (steady_refl S.pages) (λ tvm. refl) (λ tvm is all. all) outside ok sound
-sound_call S h (Unbound t v) outside ok sound =
-    one_tvm S h (Unbound t v) t (on_cpu v (λ cpu. record cpu { binding = None })) refl (λ u. refl) refl (steady_refl S.pages) (λ tvm. refl) (λ tvm is all. all) outside ok sound
-sound_call S h (Inject t v id) outside ok sound =
-    one_tvm S h (Inject t v id) t (on_cpu v (λ cpu. record cpu { file = raised cpu.file id })) refl (λ u. refl) refl (steady_refl S.pages) (λ tvm. refl) (λ tvm is all. all) outside ok sound
+sound_call S h call outside ok sound = steady_sound S h call tt outside ok sound

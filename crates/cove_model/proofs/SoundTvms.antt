@@ -1,5 +1,5 @@
 -- The mappings of TVMs stay sound under each kind of change.
-use Rattle.std.proofs.Common.{◌≡◌, ℕ, zero, suc, ◌+◌, ◌<◌, Bool, true, false, cond, eqb, eqb-true, eq-eqb, true≢false, not, map, List, [], ◌∷◌, Some, None, length, refl, sym, ap, subst, ◌∙◌, arith}
+use Rattle.std.proofs.Common.{◌≡◌, ℕ, zero, suc, ◌+◌, ◌-◌, ◌<◌, nat_lt, slice_index, get_or, Bool, true, false, cond, eqb, eqb-true, eq-eqb, true≢false, not, map, List, [], ◌∷◌, Some, None, length, refl, sym, ap, subst, ◌∙◌, arith}
 use Rattle.std.specs.List.{AllByRecursion}
 use Rattle.cove_model.proofs.Members.{false-true}
 use Rattle.cove_model.specs.Owners.{Owner, Given, AsData, is_host, page_at, without}
@@ -8,7 +8,10 @@ use Rattle.cove_model.proofs.Lists.{all_filter, all_map, all_weaker}
 use Rattle.cove_model.proofs.SoundPages.{IsSteady, backed_steady, within_both}
 use Rattle.cove_model.specs.Keyed.{alter, dropped}
 use Rattle.cove_model.specs.Mappings.{blocked_standing, fenced_standing, left_standing, own_mappings, restand, restood, shared_mappings}
-use Rattle.cove_model.specs.GuestCalls.{remembered, reworded}
+use Rattle.cove_model.specs.GuestCalls.{overwritten, remembered, reworded}
+use Rattle.std.specs.List.{range_with_len}
+use Rattle.std.proofs.lemmas.List.{length-map}
+use Rattle.std.proofs.lemmas.List.FromFn.{length-range_with_len}
 use Rattle.cove_model.specs.States.{State, harts_inside}
 use Rattle.cove_model.specs.Tvms.{Backing, OwnPage, HostPage, Standing, Present, Blocked, Mapping, Tvm}
 
@@ -147,3 +150,8 @@ shared_sound pages inside t g p (suc n) hosts =
       shared_sound pages inside t (g + 1) (p + 1) n
           (λ i below. ap (λ q. is_host (page_at pages q)) (let e : p + 1 + i ≡ p + (i + 1) = omega arith in e) ∙ hosts (i + 1) (omega arith)),
     )
+
+pub overwritten_length : (place : ℕ) (new words : List ℕ) → length (overwritten place new words) ≡ length words
+overwritten_length place new words =
+    length-map (range_with_len 0 (length words)) (λ i. cond (nat_lt i place) (slice_index words i) (get_or new (i - place) (slice_index words i)))
+    ∙ length-range_with_len 0 (length words)

@@ -23,15 +23,15 @@ use Rattle.cove_model.proofs.Runs.{change_cases}
 use Rattle.cove_model.specs.Owners.{may_use, page_at, word_stored}
 use Rattle.cove_model.specs.States.{page_of, word_place, Seat, State, tvm_at}
 use Rattle.cove_model.proofs.Answering.{guest_answer, host_answer}
-use Rattle.cove_model.proofs.EventMoves.{moves, seat_other, seats_acted, seats_performed, wrote_guest}
+use Rattle.cove_model.proofs.EventMoves.{moves, seat_other}
+use Rattle.cove_model.proofs.GuestChanges.{IsCalm, act_rule, blocks, change_guest, seats_after}
 use Rattle.cove_model.proofs.Fairness.{IsFair, fair}
 use Rattle.cove_model.proofs.Keeping.{Keeps as KeepsTvm, keeps_same}
-use Rattle.cove_model.proofs.KeepingCalls.{blocks, keeps_acted, keeps_done, keeps_performed, keeps_seat}
+use Rattle.cove_model.proofs.KeepingCalls.{keeps_done, keeps_tvms}
 use Rattle.cove_model.proofs.Lists.{all_append, all_weaker}
 use Rattle.cove_model.proofs.Moves.{outcome_state}
 use Rattle.cove_model.proofs.UsingPages.{Spares, use_call, use_move, use_stored, use_wrote}
 use Rattle.cove_model.specs.Answers.{refusal, refusal_by, reply_to, state_by}
-use Rattle.cove_model.specs.Deeds.{deed_of}
 use Rattle.cove_model.specs.GuestCalls.{guest_rule}
 use Rattle.cove_model.specs.HostCalls.{Forgets, Keeps, ForgetsGuests, ForgetsAll, rule}
 use Rattle.cove_model.specs.Mappings.{is_own, mapping_of, may_follow, page_under}
@@ -218,20 +218,25 @@ forgets_blocking S h t a0 a1 (acts.Allow id) b = absurd (true≢false (sym b))
 forgets_blocking S h t a0 a1 (acts.Deny id) b = absurd (true≢false (sym b))
 forgets_blocking S h t a0 a1 acts.Other b = absurd (true≢false (sym b))
 
+-- a calm event keeps all
+calm_keeps : (S : State) (h : ℕ) (seat : Seat) (event : Event) (forgets : Forgets) → IsCalm S h seat event → S.seats h ≡ Some seat → OwnKeeps S (guest_done S h seat event) h forgets
+calm_keeps S h seat event forgets calm sits =
+    let c = change_guest (IsCalm S h seat event) S h seat event (λ e. e) sits in
+    KeepsAll (⊎_elim (λ e. ap (λ f. f h) e) (λ q. absurd (q.0 calm)) (seats_after (IsCalm S h seat event) S (guest_done S h seat event) h c.seat))
+    (λ s q. keeps_tvms (IsCalm S h seat event) S (guest_done S h seat event) h h s.tvm (inl calm) c.tvms)
+
 act_keeps : (script : ScriptValue) (S : State) (h : ℕ) (seat : Seat) (act : GuestAct) (reply : Reply) → Allows script S h (events.Guest act reply) → S.seats h ≡ Some seat
     → OwnKeeps S (acted S h seat act) h (forgets_inside S h seat (events.Guest act reply))
-act_keeps script S h seat act reply allows sits = go (blocks act) refl (refusal_by (guest_rule S h seat.tvm (register (cpu_of S seat).x 10) (register (cpu_of S seat).x 11) act)) refl
+act_keeps script S h seat act reply allows sits = go (blocks act) refl (refusal_by (act_rule S h seat act)) refl
   where
-    kept : (blocks act ≡ true → refusal_by (guest_rule S h seat.tvm (register (cpu_of S seat).x 10) (register (cpu_of S seat).x 11) act) ≡ None → ⊥)
-        → OwnKeeps S (acted S h seat act) h (forgets_inside S h seat (events.Guest act reply))
-    kept never = KeepsAll (ap (λ f. f h) (seats_acted S h seat act)) (λ s q. keeps_acted h h S seat s.tvm act (λ b e is. absurd (never b e)))
+    kept : IsCalm S h seat (events.Guest act reply) → OwnKeeps S (acted S h seat act) h (forgets_inside S h seat (events.Guest act reply))
+    kept calm = calm_keeps S h seat (events.Guest act reply) (forgets_inside S h seat (events.Guest act reply)) calm sits
 
-    go : (b : Bool) → blocks act ≡ b → (o : Option Reply) → refusal_by (guest_rule S h seat.tvm (register (cpu_of S seat).x 10) (register (cpu_of S seat).x 11) act) ≡ o
-        → OwnKeeps S (acted S h seat act) h (forgets_inside S h seat (events.Guest act reply))
+    go : (b : Bool) → blocks act ≡ b → (o : Option Reply) → refusal_by (act_rule S h seat act) ≡ o → OwnKeeps S (acted S h seat act) h (forgets_inside S h seat (events.Guest act reply))
     go false b o e = kept (λ t q. true≢false (sym t ∙ b))
     go true b (Some r) e = kept (λ t q. none-some r (sym q ∙ e))
     go true b None e =
-        let r = guest_rule S h seat.tvm (register (cpu_of S seat).x 10) (register (cpu_of S seat).x 11) act in
+        let r = act_rule S h seat act in
         let success : is_success reply.status ≡ true =
         ap (λ (x : Reply). is_success x.status) (guest_answer script S h seat act reply allows sits)
         ∙ ap (λ o. is_success (unwrap_or {T = Reply} o (record { status = Success; value = r.outcome.value })).status) e in
@@ -239,23 +244,16 @@ act_keeps script S h seat act reply allows sits = go (blocks act) refl (refusal_
 
 pub guest_keeps : (script : ScriptValue) (S : State) (h : ℕ) (seat : Seat) (event : Event) → Allows script S h event → S.seats h ≡ Some seat
     → OwnKeeps S (guest_done S h seat event) h (forgets_inside S h seat event)
-guest_keeps script S h seat (events.Fetch how) allows sits = KeepsAll refl (λ s q. keeps_seat h S seat _ s.tvm)
-guest_keeps script S h seat events.Exec allows sits =
-    KeepsAll (ap (λ f. f h) (seats_performed S seat (deed_of (cpu_of S seat)))) (λ s q. keeps_performed h S seat (deed_of (cpu_of S seat)) s.tvm)
-guest_keeps script S h seat (events.Access how) allows sits =
-    KeepsAll (ap (λ f. f h) (seats_performed S seat (deed_of (cpu_of S seat)))) (λ s q. keeps_performed h S seat (deed_of (cpu_of S seat)) s.tvm)
 guest_keeps script S h seat (events.Guest act reply) allows sits = act_keeps script S h seat act reply allows sits
-guest_keeps script S h seat (events.Evidence quote) allows sits =
-    KeepsAll (ap (λ f. f h) (seats_acted S h seat GuestAct.Evidence)) (λ s q. keeps_acted h h S seat s.tvm GuestAct.Evidence (λ b e is. absurd (true≢false (sym b))))
 guest_keeps script S h seat (events.Exit exit) allows sits = Empties refl
-guest_keeps script S h seat _ allows sits = KeepsAll refl (λ s q. keeps_same h (tvm_at S s.tvm) (tvm_at S s.tvm) refl)
+guest_keeps script S h seat event allows sits = calm_keeps S h seat event (forgets_inside S h seat event) tt sits
 
 usable_guest : (script : ScriptValue) (S : State) (h : ℕ) (seat : Seat) (held : Tlb) (event : Event) → Allows script S h event → S.seats h ≡ Some seat → IsUsable S h held
     → IsUsable (guest_done S h seat event) h (emptied_by (forgets_inside S h seat event) held)
 usable_guest script S h seat held event allows sits usable = go (guest_keeps script S h seat event allows sits)
   where
     pages : (p : ℕ) → may_use h (page_at S.pages p) ≡ true → may_use h (page_at (guest_done S h seat event).pages p) ≡ true
-    pages p e = use_wrote S (guest_done S h seat event) h p (wrote_guest S h seat p event) e
+    pages p e = use_wrote S (guest_done S h seat event) h p ((change_guest ⊥ S h seat event (λ c. absurd c) sits).wrote p) e
 
     go : OwnKeeps S (guest_done S h seat event) h (forgets_inside S h seat event) → IsUsable (guest_done S h seat event) h (emptied_by (forgets_inside S h seat event) held)
     go (KeepsAll seats keeps) = usable_emptied (guest_done S h seat event) h held (forgets_inside S h seat event) (usable_kept S (guest_done S h seat event) h held pages seats keeps usable)

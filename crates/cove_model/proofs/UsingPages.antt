@@ -6,7 +6,7 @@ use Rattle.cove_model.proofs.Members.{false-true, has_below, has_without}
 use Rattle.cove_model.proofs.Runs.{change_cases, page_map}
 use Rattle.cove_model.specs.Owners.{Converting, Free, Given, Host, Owner, Purpose, AsRoot, AsState, AsTable, AsVcpu, AsData, TheHost, fence_answered, change, converted, fenced, has, holder, is_host, may_use, page_at, reclaimed, settled, word_stored, without}
 use Rattle.cove_model.specs.States.{harts_below, State}
-use Rattle.cove_model.proofs.EventMoves.{Left, Put, Wrote}
+use Rattle.cove_model.proofs.GuestChanges.{Left, Put, Wrote}
 use Rattle.cove_model.proofs.Moves.{Converts, Fences, Gives, Move, Reclaims, Responds, Returns, Same, Stores, outcome_state}
 use Rattle.cove_model.proofs.PageRuns.{each_cases}
 use Rattle.cove_model.specs.GuestPages.{is_among}

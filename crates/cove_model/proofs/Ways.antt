@@ -1,27 +1,27 @@
 -- What events of other harts leave of the way of a hart inside: the root of its TVM's tables, and pages given to it for tables.
-use Rattle.std.proofs.Common.{◌≡◌, ℕ, ◌+◌, ◌<◌, ◌≤◌, Bool, true, false, cond, eqb, eqb-true, find, List, [], ◌∷◌, ◌++◌, Option, Some, None, length, map, refl, sym, ap, subst, ◌∙◌, inl, inr, ◌⊎◌, ⊎_elim, arith, true≢false, unwrap_or}
-use Rattle.std.proofs.lemmas.Bool.{cases_eq, cases_Bool, ne_eqb}
+use Rattle.std.proofs.Common.{◌≡◌, ℕ, ◌+◌, ◌<◌, ◌≤◌, Bool, true, false, cond, find, List, [], ◌∷◌, ◌++◌, Option, Some, None, length, map, refl, sym, ap, subst, ◌∙◌, inl, inr, arith, true≢false, unwrap_or}
+use Rattle.std.proofs.lemmas.Bool.{ne_eqb}
 use Rattle.std.specs.List.{AllByRecursion, range_with_len}
 use Rattle.cove_base.proofs.ScriptLimits.{Limits}
 use Rattle.cove_base.specs.HartValues.{Way}
 use Rattle.cove_base.specs.Scripts.{ScriptValue}
 use Rattle.cove_base.specs.declared.events.Entry.{Entry}
-use Rattle.cove_model.proofs.AtTheEnd.{after_push, legal_front, line_pages}
+use Rattle.cove_model.proofs.AtTheEnd.{after_push, line_pages}
 use Rattle.cove_model.proofs.EventMoves.{moves}
 use Rattle.cove_model.proofs.Frames.{framed_done}
 use Rattle.cove_model.proofs.Histories.{after_harts}
-use Rattle.cove_model.proofs.KeepingCalls.{Sits, sits_inside}
+use Rattle.cove_model.proofs.KeepingCalls.{sits_inside}
 use Rattle.cove_model.proofs.KeyedLemmas.{at_key}
 use Rattle.cove_model.proofs.Lists.{all_at}
 use Rattle.cove_model.proofs.Moves.{Move, Same, Converts, Reclaims, Stores, Fences, Responds, Gives, Returns, IsReturnable}
 use Rattle.cove_model.proofs.Ordering.{after_numbered}
 use Rattle.cove_model.proofs.Running.{seat_apart, seated}
-use Rattle.cove_model.specs.Fits.{IsWay, WayFits}
+use Rattle.cove_model.specs.Fits.{WayFits}
 use Rattle.cove_model.specs.Histories.{Legal, after}
 use Rattle.cove_model.specs.Owners.{Owner, Host, Converting, Free, Given, Purpose, AsRoot, AsState, AsTable, AsVcpu, AsData, fence_answered, converted, fenced, has, page_at, reclaimed, settled, without, word_stored}
 use Rattle.cove_model.specs.Pages.{is_root_of, root_of}
-use Rattle.cove_model.specs.States.{Seat, State, find_tvm, harts_below, harts_inside}
-use Rattle.cove_model.specs.Steps.{after_event, done}
+use Rattle.cove_model.specs.States.{Seat, State, harts_below, harts_inside}
+use Rattle.cove_model.specs.Steps.{done}
 use Rattle.cove_model.specs.Tvms.{Tvm}
 
 -- ---- roots
@@ -94,7 +94,7 @@ module _ (S T : State) (h k t : ℕ) (here : IsIn S k t) where
   root_move old new (Stores place value u q) = ap (is_root_of t) q ∙ stored_root t place value old
   root_move old new (Fences all u q) = ap (is_root_of t) q ∙ fenced_root t h (without h (harts_below S.harts)) old
   root_move old new (Responds u q) = ap (is_root_of t) q ∙ answered_root t h old
-  root_move old new (Gives v purpose u root free q) = ap (is_root_of t) q ∙ given_root v purpose root ∙ sym (ap (is_root_of t) free)
+  root_move old new (Gives v purpose u root free q) = ap (is_root_of t) q ∙ given_root v purpose root.new_root ∙ sym (ap (is_root_of t) free)
   root_move old new (Returns v purpose u left given q) = ap (is_root_of t) q ∙ sym (taken_root v purpose left) ∙ sym (ap (is_root_of t) given)
 
   -- ---- table pages
