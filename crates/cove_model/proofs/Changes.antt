@@ -1,8 +1,9 @@
 -- What an accepted call of the host does to the live TVMs: each row is classified here, once.
-use Rattle.std.proofs.Common.{◌≡◌, ℕ, ◌+◌, ◌/◌, ◌<◌, Bool, true, false, eqb, true≢false, map, List, [], ◌∷◌, ◌++◌, Option, Some, None, unwrap_or, is_some, refl, sym, ap, subst, ◌∙◌, ⊎_elim, replicate, arith, length}
+use Rattle.std.proofs.Common.{◌≡◌, ℕ, ◌+◌, ◌/◌, ◌<◌, Bool, true, false, eqb, eq-eqb, option_map, ◌&&◌, true≢false, map, List, [], ◌∷◌, ◌++◌, Option, Some, None, unwrap_or, is_some, refl, sym, ap, subst, ◌∙◌, ⊎_elim, replicate, arith, length}
 use Rattle.std.specs.List.{AllByRecursion, list_any, range_with_len}
 use Rattle.std.specs.Option.{option_map_or}
-use Rattle.std.proofs.lemmas.Bool.{cases_Bool}
+use Rattle.std.proofs.lemmas.Bool.{and_from, cases_Bool}
+use Rattle.std.proofs.lemmas.Option.{none-some, same_Some}
 use Rattle.std.proofs.lemmas.List.{length-replicate, map-append}
 use Rattle.std.proofs.lemmas.List.FromFn.{length-map-range_with_len}
 use Rattle.cove_base.specs.Measurement.{Record, FinalizeRecord}
@@ -13,26 +14,26 @@ use Rattle.cove_model.proofs.CheckedRuns.{all_hosts, host_words, length_words, m
 use Rattle.cove_model.proofs.Cpus.{none_runs}
 use Rattle.cove_model.proofs.Distinct.{distinct_append, distinct_range, none_any, none_has, pages_of, pages_own, pages_shared}
 use Rattle.cove_model.proofs.Keeping.{among_all, blocked_follows, fenced_apart, fenced_follows}
-use Rattle.cove_model.proofs.Lists.{all_at}
+use Rattle.cove_model.proofs.Lists.{all_at, any_at}
 use Rattle.cove_model.proofs.Members.{has_with}
 use Rattle.cove_model.proofs.Moves.{none_left, outcome_state}
 use Rattle.cove_model.proofs.Passing.{Passed}
 use Rattle.cove_model.proofs.SoundTvms.{AllSound, blocked_sound, fenced_sound, own_sound, shared_sound}
-use Rattle.cove_model.specs.Checks.{is_mapped_by}
+use Rattle.cove_model.specs.Checks.{is_at, is_mapped_by}
 use Rattle.cove_model.specs.GuestCalls.{remembered}
 use Rattle.cove_model.specs.GuestPages.{guests, is_among}
 use Rattle.cove_model.specs.HostCalls.{page_records, rule, started, page_words_from}
 use Rattle.cove_model.specs.Keyed.{alter, at, dropped}
 use Rattle.cove_model.specs.Mappings.{blocked_standing, fenced_standing, fenced_unbinding, is_fenced, left_unbinding, mapping_of, may_follow, own_mappings, rebound, restood, shared_mappings, unblocked_standing}
 use Rattle.cove_model.specs.Measured.{IsPage}
-use Rattle.cove_model.specs.Orderly.{AreDistinct, guests_of}
+use Rattle.cove_model.specs.Orderly.{AreDistinct, Place, guests_of, place_in, place_of}
 use Rattle.cove_model.specs.Owners.{Owner, has, page_at, without, words_of, zeros}
 use Rattle.cove_model.specs.Pages.{freed}
 use Rattle.cove_model.specs.Seated.{IsSeated, IsStill}
 use Rattle.cove_model.specs.Sound.{IsHeldWithin, IsSound, IsSoundMapping, IsSoundTvm}
 use Rattle.cove_model.specs.States.{Seat, State, find_cpu, find_tvm, harts_inside, new_cpu, on_cpu, tvm_at}
 use Rattle.cove_model.specs.Steps.{left_by}
-use Rattle.cove_model.specs.Tvms.{Mapping, Standing, Unbinding, Cpu, Tvm, new_tvm}
+use Rattle.cove_model.specs.Tvms.{Begun, Binding, Mapping, Standing, Unbinding, Cpu, Tvm, new_tvm}
 
 -- ---- what happens to a TVM
 
@@ -65,13 +66,19 @@ Spares S h t v how = IsSeated S → h < S.harts → (x : ℕ) (seat : Seat) → 
 abbrev pub stopped_by : Exit → Cpu → Cpu
 stopped_by exit cpu = record (left_by exit cpu) { latched = None; fuel = 0 }
 
+-- what a change of a vCPU does to its binding: it stays at its file, goes, or is at one that none has
+pub data Binds (S : State) (how : Cpu → Cpu) : Type 0 where
+  StaysBound : ((cpu : Cpu) → place_in (how cpu).binding ≡ place_in cpu.binding) → Binds S how
+  Unbinds : ((cpu : Cpu) → (how cpu).binding ≡ None) → Binds S how
+  BindsAnew : (place : Place) → ((cpu : Cpu) → place_in (how cpu).binding ≡ Some place) → ((u w : ℕ) → place_of S u w ≡ Some place → ⊥) → Binds S how
+
 -- to its vCPUs: they stay, or one is added, all begin, one changes, unbindings change, or a hart leaves one
 pub data Cpus (Found : Type 0) (S : State) (h t : ℕ) (tvm now : Tvm) : Type 0 where
   CpusStay : now.cpus ≡ tvm.cpus → Cpus Found S h t tvm now
   AddsCpu : (v : ℕ) → now.cpus ≡ tvm.cpus ++ new_cpu v ∷ [] → (Found → is_some (find_cpu tvm v) ≡ false) → Cpus Found S h t tvm now
   Starts : (pc arg : ℕ) → (Found → tvm.runnable ≡ false) → now.cpus ≡ map (started pc arg) tvm.cpus → Cpus Found S h t tvm now
   OnCpu : (v : ℕ) (how : Cpu → Cpu) → now.cpus ≡ alter (λ c. c.number) v how tvm.cpus → ((cpu : Cpu) → (how cpu).number ≡ cpu.number)
-      → Spares S h t v how → Cpus Found S h t tvm now
+      → Spares S h t v how → Binds S how → Cpus Found S h t tvm now
   Rebinds : (how : Unbinding → Unbinding) → now.cpus ≡ map (rebound how) tvm.cpus → Cpus Found S h t tvm now
   Leaves : (v : ℕ) (exit : Exit) → now.cpus ≡ alter (λ c. c.number) v (stopped_by exit) (map (rebound (left_unbinding h)) tvm.cpus)
       → Spares S h t v (stopped_by exit) → Cpus Found S h t tvm now
@@ -89,10 +96,18 @@ pub data OneTvm (Calm : Type 0) (S : State) (pages : List Owner) (h : ℕ) (xs y
   Alters : (t : ℕ) (how : Tvm → Tvm) → ys ≡ alter (λ k. k.number) t how xs → ((tvm : Tvm) → (how tvm).number ≡ tvm.number)
       → ((tvm : Tvm) → TvmChange Calm (at (λ k. k.number) t xs ≡ Some tvm) S pages h t tvm (how tvm)) → OneTvm Calm S pages h xs ys
 
--- one is changed, perhaps twice, one is new, or one is destroyed
+-- where a vCPU is bound, by the vCPUs of a TVM and by the live TVMs
+abbrev pub place_at : List Cpu → (v : ℕ) → Option Place
+place_at cpus v = place_in (unwrap_or (at (λ c. c.number) v cpus) (new_cpu v)).binding
+
+abbrev pub place_among : List Tvm → (t v : ℕ) → Option Place
+place_among tvms t v = place_at (unwrap_or (at (λ k. k.number) t tvms) (new_tvm t)).cpus v
+
+-- one is changed, perhaps twice, then with its vCPUs bound as they were; one is new, or one is destroyed
 pub data TvmsChange (Calm : Type 0) (S T : State) (h : ℕ) : Type 0 where
   Once : T.made ≡ S.made → OneTvm Calm S T.pages h S.tvms T.tvms → TvmsChange Calm S T h
-  Twice : T.made ≡ S.made → (mid : List Tvm) → OneTvm Calm S T.pages h S.tvms mid → OneTvm Calm S T.pages h mid T.tvms → TvmsChange Calm S T h
+  Twice : T.made ≡ S.made → (mid : List Tvm) → OneTvm Calm S T.pages h S.tvms mid → OneTvm Calm S T.pages h mid T.tvms → ((u w : ℕ) → place_among T.tvms u w ≡ place_among mid u w)
+      → TvmsChange Calm S T h
   Grows : T.made ≡ S.made + 1 → T.tvms ≡ S.tvms ++ new_tvm (S.made + 1) ∷ [] → TvmsChange Calm S T h
   Loses : (t : ℕ) → T.made ≡ S.made → T.tvms ≡ dropped (λ k. eqb k.number t) S.tvms → T.pages ≡ map (freed t) S.pages → harts_inside S t ≡ [] → (Calm → ⊥)
       → TvmsChange Calm S T h
@@ -118,9 +133,9 @@ alters : (S T : State) (h t : ℕ) (how : Tvm → Tvm) → T.made ≡ S.made →
 alters S T h t how made tvms numbers each = Once made (Alters t how tvms numbers each)
 
 alters_cpu : (S T : State) (h t v : ℕ) (how : Cpu → Cpu) → T.made ≡ S.made → T.tvms ≡ alter (λ k. k.number) t (on_cpu v how) S.tvms → ((cpu : Cpu) → (how cpu).number ≡ cpu.number)
-    → Spares S h t v how → TvmsChange ⊥ S T h
-alters_cpu S T h t v how made tvms numbers spares =
-    alters S T h t (on_cpu v how) made tvms (λ tvm. refl) (λ tvm. recpus ⊥ (find_tvm S t ≡ Some tvm) S T.pages h t tvm (on_cpu v how tvm) refl refl refl (OnCpu v how refl numbers spares))
+    → Spares S h t v how → Binds S how → TvmsChange ⊥ S T h
+alters_cpu S T h t v how made tvms numbers spares binds =
+    alters S T h t (on_cpu v how) made tvms (λ tvm. refl) (λ tvm. recpus ⊥ (find_tvm S t ≡ Some tvm) S T.pages h t tvm (on_cpu v how tvm) refl refl refl (OnCpu v how refl numbers spares binds))
 
 -- no TVM
 pub stays : (S T : State) (h : ℕ) → T.made ≡ S.made → T.tvms ≡ S.tvms → TvmsChange ⊥ S T h
@@ -171,6 +186,36 @@ fenced_run S t tvm gpa n live ok sound x g m found follows = ⊎_elim
     (λ q. q)
     (cases_Bool (is_among gpa n g))
 
+-- a binding whose unbinding changed is at its file
+pub rebound_place : (how : Unbinding → Unbinding) (cpu : Cpu) → place_in (rebound how cpu).binding ≡ place_in cpu.binding
+rebound_place how cpu = go cpu.binding
+  where
+    go : (o : Option Binding) → place_in (option_map {T = Binding} (λ b. record b { unbinding = how b.unbinding }) o) ≡ place_in o
+    go None = refl
+    go (Some b) = refl
+
+-- no vCPU is bound to a file that is not taken
+not_taken : (S : State) (hart file : ℕ) → list_any (λ (tvm : Tvm). list_any (is_at hart file) tvm.cpus) S.tvms ≡ false
+    → (u w : ℕ) → place_of S u w ≡ Some (record { hart = hart; file = file }) → ⊥
+not_taken S hart file none u w = go (find_tvm S u) refl
+  where
+    place : Place
+    place = record { hart = hart; file = file }
+
+    taken : (o : Option Binding) → place_in o ≡ Some place → option_map_or (λ b. eqb b.hart hart && eqb b.file file) o false ≡ true
+    taken None e = absurd (none-some place e)
+    taken (Some b) e = let q = same_Some (record { hart = b.hart; file = b.file }) place e in
+        and_from (eqb b.hart hart) (eqb b.file file) (eq-eqb b.hart hart (ap (λ (p : Place). p.hart) q)) (eq-eqb b.file file (ap (λ (p : Place). p.file) q))
+
+    of : (tvm : Tvm) → find_tvm S u ≡ Some tvm → (c : Option Cpu) → find_cpu tvm w ≡ c → place_in (unwrap_or c (new_cpu w)).binding ≡ Some place → ⊥
+    of tvm live None there e = none-some place e
+    of tvm live (Some cpu) there e = true≢false (sym (taken cpu.binding e)
+        ∙ any_at (is_at hart file) (λ (c : Cpu). c.number) w tvm.cpus cpu there (any_at (λ (k : Tvm). list_any (is_at hart file) k.cpus) (λ (k : Tvm). k.number) u S.tvms tvm live none))
+
+    go : (o : Option Tvm) → find_tvm S u ≡ o → place_at (unwrap_or o (new_tvm u)).cpus w ≡ Some place → ⊥
+    go None live e = none-some place e
+    go (Some tvm) live e = of tvm live (find_cpu tvm w) refl e
+
 -- ---- each call
 
 pub change_call : (S : State) (h : ℕ) (call : HostCall) → Passed (rule S h call).checks → TvmsChange ⊥ S (outcome_state S h call) h
@@ -220,7 +265,7 @@ change_call S h (Shared t base n gpa) ok =
     (λ i below. all_hosts S base n ok.1.1.1.1.1.0 ok.1.1.1.1.1.1.0 (base / 4096 + i) (omega arith) (omega arith)))))
 change_call S h (Run t v fuel) ok =
     alters_cpu S (outcome_state S h (Run t v fuel)) h t v _ refl refl (λ cpu. refl)
-    (λ seated below x seat lt sits ne is it cpu. absurd (none_runs S x t v seat lt sits ok.1.1.1.1.0 is it))
+    (λ seated below x seat lt sits ne is it cpu. absurd (none_runs S x t v seat lt sits ok.1.1.1.1.0 is it)) (StaysBound (λ cpu. refl))
 change_call S h (Invalidate t gpa n) ok =
     let inside = harts_inside S t in
     alters S (outcome_state S h (Invalidate t gpa n)) h t _ refl refl (λ tvm. refl) (λ tvm. remaps ⊥ (find_tvm S t ≡ Some tvm) S _ h t tvm _ refl refl refl
@@ -240,11 +285,11 @@ change_call S h (Remove t gpa n) ok =
     (Drops (is_among gpa n) refl (λ calm. calm) (λ live. fenced_run S t tvm gpa n live ok)))
 change_call S h (Destroy t) ok = Loses t refl refl refl (none_left (harts_inside S t) ok.1.0) (λ calm. calm)
 change_call S h (Bind t v hart file) ok =
-    alters_cpu S (outcome_state S h (Bind t v hart file)) h t v _ refl refl (λ cpu. refl) (λ seated below x seat lt sits ne is it cpu. record { x = refl; pc = refl; latched = refl; fuel = refl })
+    alters_cpu S (outcome_state S h (Bind t v hart file)) h t v _ refl refl (λ cpu. refl) (λ seated below x seat lt sits ne is it cpu. record { x = refl; pc = refl; latched = refl; fuel = refl }) (BindsAnew (record { hart = hart; file = file }) (λ cpu. refl) (not_taken S hart file ok.1.1.1.1.0))
 change_call S h (Unbind t v) ok =
-    alters_cpu S (outcome_state S h (Unbind t v)) h t v _ refl refl (λ cpu. refl) (λ seated below x seat lt sits ne is it cpu. record { x = refl; pc = refl; latched = refl; fuel = refl })
+    alters_cpu S (outcome_state S h (Unbind t v)) h t v _ refl refl (λ cpu. refl) (λ seated below x seat lt sits ne is it cpu. record { x = refl; pc = refl; latched = refl; fuel = refl }) (StaysBound (rebound_place (λ unbinding. Begun None)))
 change_call S h (Unbound t v) ok =
-    alters_cpu S (outcome_state S h (Unbound t v)) h t v _ refl refl (λ cpu. refl) (λ seated below x seat lt sits ne is it cpu. record { x = refl; pc = refl; latched = refl; fuel = refl })
+    alters_cpu S (outcome_state S h (Unbound t v)) h t v _ refl refl (λ cpu. refl) (λ seated below x seat lt sits ne is it cpu. record { x = refl; pc = refl; latched = refl; fuel = refl }) (Unbinds (λ cpu. refl))
 change_call S h (Inject t v id) ok =
-    alters_cpu S (outcome_state S h (Inject t v id)) h t v _ refl refl (λ cpu. refl) (λ seated below x seat lt sits ne is it cpu. record { x = refl; pc = refl; latched = refl; fuel = refl })
+    alters_cpu S (outcome_state S h (Inject t v id)) h t v _ refl refl (λ cpu. refl) (λ seated below x seat lt sits ne is it cpu. record { x = refl; pc = refl; latched = refl; fuel = refl }) (StaysBound (λ cpu. refl))
 change_call S h call ok = stays S (outcome_state S h call) h refl refl

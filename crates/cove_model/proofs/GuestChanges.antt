@@ -9,7 +9,8 @@ use Rattle.cove_base.specs.declared.events.Event.{Event}
 use Rattle.cove_base.specs.declared.events.Event.TheVariants as events
 use Rattle.cove_base.specs.declared.events.Exit.{Exit}
 use Rattle.cove_base.specs.declared.statuses.Reply.{Reply}
-use Rattle.cove_model.proofs.Changes.{Alters, Leaves, NoTvm, Once, OnCpu, OneTvm, Restands, Rewords, Spares, TvmChange, TvmsChange, Twice, Unmeasured, change_call, recpus, remaps, stays, stopped_by, unread}
+use Rattle.cove_model.proofs.Changes.{Alters, Leaves, StaysBound, NoTvm, Once, OnCpu, OneTvm, Restands, Rewords, Spares, TvmChange, TvmsChange, Twice, Unmeasured, change_call, recpus, remaps, stays, stopped_by, unread}
+use Rattle.cove_model.proofs.BoundPlaces.{places_altered}
 use Rattle.cove_model.proofs.CallFrames.{Framed, framed}
 use Rattle.cove_model.proofs.Keeping.{blocked_follows, left_follows}
 use Rattle.cove_model.proofs.Members.{has_not, has_with}
@@ -25,6 +26,7 @@ use Rattle.cove_model.specs.GuestPages.{is_among}
 use Rattle.cove_model.specs.HostCalls.{Rule}
 use Rattle.cove_model.specs.Mappings.{blocked_standing, left_standing, mapping_of, restand}
 use Rattle.cove_model.specs.Offers.{cpu_of}
+use Rattle.cove_model.specs.Orderly.{place_in}
 use Rattle.cove_model.specs.Owners.{Owner, has, page_at, without, word_stored}
 use Rattle.cove_model.specs.Sound.{IsHeldWithin}
 use Rattle.cove_model.specs.States.{Seat, State, find_tvm, harts_inside, on_cpu, on_tvm, page_of, seated, tvm_at, word_place}
@@ -80,16 +82,20 @@ own_spares S h seat how sits seated below x other lt sat ne is it cpu = absurd (
 
 -- then the vCPU goes on
 goes_on : (Calm : Type 0) (S M : State) (h : ℕ) (seat : Seat) (how : Cpu → Cpu) → S.seats h ≡ Some seat → ((cpu : Cpu) → (how cpu).number ≡ cpu.number)
-    → Midway Calm S M h → InsideChange Calm S (on_seat seat how M) h
-goes_on Calm S M h seat how sits numbers mid = record {
+    → ((cpu : Cpu) → (how cpu).binding ≡ cpu.binding) → Midway Calm S M h → InsideChange Calm S (on_seat seat how M) h
+goes_on Calm S M h seat how sits numbers bound mid = record {
   framed = record { harts = mid.framed.harts; files = mid.framed.files; key = mid.framed.key; ended = mid.framed.ended; size = mid.framed.size };
   seat = Stays mid.seats;
   wrote = λ p. wrote p (mid.wrote p);
   tvms = Twice mid.made M.tvms (mid.one M.pages)
       (Alters seat.tvm (on_cpu seat.cpu how) refl (λ tvm. refl)
-      (λ tvm. recpus Calm _ S M.pages h seat.tvm tvm (on_cpu seat.cpu how tvm) refl refl refl (OnCpu seat.cpu how refl numbers (own_spares S h seat how sits))));
+      (λ tvm. recpus Calm _ S M.pages h seat.tvm tvm (on_cpu seat.cpu how tvm) refl refl refl (OnCpu seat.cpu how refl numbers (own_spares S h seat how sits) (StaysBound places))))
+      (λ u w. places_altered seat.tvm seat.cpu how numbers places M.tvms u w);
 }
   where
+    places : (cpu : Cpu) → place_in (how cpu).binding ≡ place_in cpu.binding
+    places cpu = ap place_in (bound cpu)
+
     wrote : (p : ℕ) → Wrote S M p → Wrote S (on_seat seat how M) p
     wrote p (Left u e) = Left u e
     wrote p (Put place value u e) = Put place value u e
@@ -118,11 +124,11 @@ idle : (Calm : Type 0) (S : State) (h : ℕ) → InsideChange Calm S S h
 idle Calm S h = record { framed = framed S; seat = Stays refl; wrote = λ p. Left refl refl; tvms = Once refl (NoTvm refl) }
 
 change_performed : (Calm : Type 0) (S : State) (h : ℕ) (seat : Seat) (deed : Deed) → S.seats h ≡ Some seat → InsideChange Calm S (performed S seat deed) h
-change_performed Calm S h seat (Executes rd value pc file) sits = goes_on Calm S S h seat _ sits (λ cpu. refl) (nothing_yet Calm S h)
-change_performed Calm S h seat (Loads addr size signed rd) sits = goes_on Calm S S h seat _ sits (λ cpu. refl) (nothing_yet Calm S h)
+change_performed Calm S h seat (Executes rd value pc file) sits = goes_on Calm S S h seat _ sits (λ cpu. refl) (λ cpu. refl) (nothing_yet Calm S h)
+change_performed Calm S h seat (Loads addr size signed rd) sits = goes_on Calm S S h seat _ sits (λ cpu. refl) (λ cpu. refl) (nothing_yet Calm S h)
 change_performed Calm S h seat (Writes addr size value) sits =
     let word = merged (guest_word S seat.tvm addr) addr size value in
-    goes_on Calm S (guest_stored S seat.tvm addr word) h seat _ sits (λ cpu. refl) (stored_yet Calm S h seat.tvm addr word)
+    goes_on Calm S (guest_stored S seat.tvm addr word) h seat _ sits (λ cpu. refl) (λ cpu. refl) (stored_yet Calm S h seat.tvm addr word)
 change_performed Calm S h seat Tires sits = idle Calm S h
 change_performed Calm S h seat (Fetches addr) sits = idle Calm S h
 change_performed Calm S h seat (Asks act) sits = idle Calm S h
@@ -167,7 +173,7 @@ act_rule S h seat act = guest_rule S h seat.tvm (register (cpu_of S seat).x 10) 
 
 change_acted : (Calm : Type 0) (S : State) (h : ℕ) (seat : Seat) (act : GuestAct) → S.seats h ≡ Some seat → (Calm → blocks act ≡ true → refusal_by (act_rule S h seat act) ≡ None → ⊥)
     → InsideChange Calm S (acted S h seat act) h
-change_acted Calm S h seat act sits calm = goes_on Calm S (state_after_rule S (act_rule S h seat act)) h seat _ sits (λ cpu. refl) (by (refusal_by (act_rule S h seat act)) refl)
+change_acted Calm S h seat act sits calm = goes_on Calm S (state_after_rule S (act_rule S h seat act)) h seat _ sits (λ cpu. refl) (λ cpu. refl) (by (refusal_by (act_rule S h seat act)) refl)
   where
     by : (o : Option Reply) → refusal_by (act_rule S h seat act) ≡ o → Midway Calm S (state_by o S (act_rule S h seat act).outcome.state) h
     by None e = act_yet Calm S h seat.tvm (register (cpu_of S seat).x 10) (register (cpu_of S seat).x 11) act (λ c b. calm c b e)
@@ -191,7 +197,7 @@ left_held h inside (Blocked list (Some waiting)) held = within_both h list waiti
 
 pub change_guest : (Calm : Type 0) (S : State) (h : ℕ) (seat : Seat) (event : Event) → (Calm → IsCalm S h seat event) → S.seats h ≡ Some seat
     → InsideChange Calm S (guest_done S h seat event) h
-change_guest Calm S h seat (events.Fetch how) calm sits = goes_on Calm S S h seat _ sits (λ cpu. refl) (nothing_yet Calm S h)
+change_guest Calm S h seat (events.Fetch how) calm sits = goes_on Calm S S h seat _ sits (λ cpu. refl) (λ cpu. refl) (nothing_yet Calm S h)
 change_guest Calm S h seat events.Exec calm sits = change_performed Calm S h seat (deed_of (cpu_of S seat)) sits
 change_guest Calm S h seat (events.Access how) calm sits = change_performed Calm S h seat (deed_of (cpu_of S seat)) sits
 change_guest Calm S h seat (events.Guest act reply) calm sits = change_acted Calm S h seat act sits calm

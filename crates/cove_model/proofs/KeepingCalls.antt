@@ -52,7 +52,7 @@ keeps_one Calm S pages h k u xs ys why (Alters t how e numbers each) = subst (Ke
 
 pub keeps_tvms : (Calm : Type 0) (S T : State) (h k u : ℕ) → Outlives Calm S h k u → TvmsChange Calm S T k → KeepsIn h u S T
 keeps_tvms Calm S T h k u why (Once made one) = keeps_one Calm S T.pages h k u S.tvms T.tvms why one
-keeps_tvms Calm S T h k u why (Twice made mid one two) =
+keeps_tvms Calm S T h k u why (Twice made mid one two bound) =
     keeps_then h (tvm_at S u) (unwrap_or (at (λ k. k.number) u mid) (new_tvm u)) (tvm_at T u)
     (keeps_one Calm S T.pages h k u S.tvms mid why one) (keeps_one Calm S T.pages h k u mid T.tvms why two)
 keeps_tvms Calm S T h k u why (Grows made e) = subst (KeepsAt h u S.tvms) (sym e) (go (find_tvm S u) refl)

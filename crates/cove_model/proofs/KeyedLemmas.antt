@@ -1,5 +1,5 @@
 -- Lists of which each item carries its number: what a change leaves to be found.
-use Rattle.std.proofs.Common.{◌≡◌, ℕ, Bool, true, false, cond, eqb, not, map, List, [], ◌∷◌, ◌++◌, Some, option_map, refl, sym, ap, ◌∙◌, eqb-true}
+use Rattle.std.proofs.Common.{◌≡◌, ℕ, Bool, true, false, cond, eqb, not, map, List, [], ◌∷◌, ◌++◌, Some, None, option_map, refl, sym, ap, ◌∙◌, eqb-true}
 use Rattle.std.proofs.lemmas.Option.{none-some, same_Some}
 use Rattle.cove_model.specs.Keyed.{at, alter, dropped}
 
@@ -57,6 +57,15 @@ at_append {X} key n (y ∷ xs) ys x e = go (eqb (key y) n) e (at_append key n xs
   where
     go : (b : Bool) → cond b (Some y) (at key n xs) ≡ Some x → (at key n xs ≡ Some x → at key n (xs ++ ys) ≡ Some x) → cond b (Some y) (at key n (xs ++ ys)) ≡ Some x
     go true q more = q
+    go false q more = more q
+
+-- and what was not, among those
+pub at_beyond : {X : Type 0} (key : X → ℕ) (n : ℕ) (xs ys : List X) → at key n xs ≡ None → at key n (xs ++ ys) ≡ at key n ys
+at_beyond {X} key n [] ys e = refl
+at_beyond {X} key n (y ∷ xs) ys e = go (eqb (key y) n) e (at_beyond key n xs ys)
+  where
+    go : (b : Bool) → cond b (Some y) (at key n xs) ≡ None → (at key n xs ≡ None → at key n (xs ++ ys) ≡ at key n ys) → cond b (Some y) (at key n (xs ++ ys)) ≡ at key n ys
+    go true q more = absurd (none-some y (sym q))
     go false q more = more q
 
 -- what is found has the number

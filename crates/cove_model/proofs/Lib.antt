@@ -73,3 +73,5 @@ pub mod CheckedRuns
 pub mod Changes
 pub mod GuestChanges
 pub mod CallFrames
+pub mod BoundPlaces
+pub mod BoundApart

@@ -1,5 +1,5 @@
 -- What holds of each item of a list.
-use Rattle.std.proofs.Common.{slice_get, slice_index, take, length, zero, suc, replicate, None, ap, arith, ◌≤◌, ◌≡◌, ℕ, Bool, true, false, cond, eqb, filter, map, List, [], ◌∷◌, ◌++◌, Some, refl, sym, subst, ◌||◌, true≢false}
+use Rattle.std.proofs.Common.{slice_get, slice_index, take, length, zero, suc, replicate, None, ap, arith, ◌≤◌, ◌≡◌, ℕ, Bool, true, false, cond, eqb, filter, map, List, [], ◌∷◌, ◌++◌, Some, refl, sym, subst, ◌||◌, true≢false, ◌∙◌}
 use Rattle.std.proofs.lemmas.Option.{none-some, same_Some}
 use Rattle.std.specs.List.{AllByRecursion, list_any}
 use Rattle.cove_model.specs.Keyed.{at}
@@ -35,6 +35,16 @@ all_at {X} P key n (y ∷ xs) x e all = go (eqb (key y) n) e (λ q. all_at P key
     go false q more = more q
 
 -- an item that a test finds
+-- and a test that none of them passes
+pub any_at : {X : Type 0} (test : X → Bool) (key : X → ℕ) (n : ℕ) (xs : List X) (x : X) → at key n xs ≡ Some x → list_any test xs ≡ false → test x ≡ false
+any_at {X} test key n [] x e none = absurd (none-some x e)
+any_at {X} test key n (y ∷ ys) x e none = go (test y) refl (eqb (key y) n) e none (any_at test key n ys x)
+  where
+    go : (b : Bool) → test y ≡ b → (c : Bool) → cond c (Some y) (at key n ys) ≡ Some x → (b || list_any test ys) ≡ false → (at key n ys ≡ Some x → list_any test ys ≡ false → test x ≡ false) → test x ≡ false
+    go true t c q r more = absurd (true≢false r)
+    go false t true q r more = ap test (sym (same_Some y x q)) ∙ t
+    go false t false q r more = more q r
+
 pub all_any : {X : Type 0} (P : X → Type 0) (test : X → Bool) (xs : List X) → list_any test xs ≡ true → AllByRecursion P xs → (x : X) × P x × (test x ≡ true)
 all_any {X} P test [] e all = absurd (true≢false (sym e))
 all_any {X} P test (x ∷ xs) e all = go (test x) refl e (λ q. all_any P test xs q all.1)

@@ -125,7 +125,7 @@ goes_finalized tvm now pc arg built runs records orders = record {
 }
 
 -- what is found among one item more is found before, or is that item
-found_last : (t : ℕ) (xs : List Tvm) (new now : Tvm) → at (λ (k : Tvm). k.number) t (xs ++ new ∷ []) ≡ Some now
+pub found_last : (t : ℕ) (xs : List Tvm) (new now : Tvm) → at (λ (k : Tvm). k.number) t (xs ++ new ∷ []) ≡ Some now
     → (at (λ (k : Tvm). k.number) t xs ≡ Some now) ⊎ ((at (λ (k : Tvm). k.number) t xs ≡ None) × ((now ≡ new) × (new.number ≡ t)))
 found_last t [] new now e = go (eqb new.number t) refl e
   where
@@ -150,7 +150,7 @@ none_kept t (x ∷ xs) now e = go (eqb x.number t) refl e (none_kept t xs now)
     go true q r more = more r
     go false q r more = more (sym (ap (λ b. cond b (Some x) (at (λ (k : Tvm). k.number) t (dropped (λ (k : Tvm). eqb k.number t) xs))) q) ∙ r)
 
-found_kept : (t u : ℕ) (xs : List Tvm) (now : Tvm) → at (λ (k : Tvm). k.number) u (dropped (λ (k : Tvm). eqb k.number t) xs) ≡ Some now → at (λ (k : Tvm). k.number) u xs ≡ Some now
+pub found_kept : (t u : ℕ) (xs : List Tvm) (now : Tvm) → at (λ (k : Tvm). k.number) u (dropped (λ (k : Tvm). eqb k.number t) xs) ≡ Some now → at (λ (k : Tvm). k.number) u xs ≡ Some now
 found_kept t u xs now e = ⊎_elim
     (λ is. absurd (none_kept t xs now (ap (λ k. at (λ (x : Tvm). x.number) k (dropped (λ (x : Tvm). eqb x.number t) xs)) (sym is) ∙ e)))
     (λ ne. sym (at_dropped (λ (k : Tvm). k.number) (λ n. eqb n t) u (ne_eqb u t ne) xs) ∙ e)
@@ -176,7 +176,7 @@ were_one Calm S pages h xs ys (Alters t how e numbers each) = subst (AllWere xs)
 
 pub came_tvms : (Calm : Type 0) (S T : State) (h : ℕ) → TvmsChange Calm S T h → AllCame S.tvms T.tvms
 came_tvms Calm S T h (Once made one) = λ t now e. inl (were_one Calm S T.pages h S.tvms T.tvms one t now e)
-came_tvms Calm S T h (Twice made mid one two) = λ t now e. inl (were_then S.tvms mid T.tvms (were_one Calm S T.pages h S.tvms mid one) (were_one Calm S T.pages h mid T.tvms two) t now e)
+came_tvms Calm S T h (Twice made mid one two bound) = λ t now e. inl (were_then S.tvms mid T.tvms (were_one Calm S T.pages h S.tvms mid one) (were_one Calm S T.pages h mid T.tvms two) t now e)
 came_tvms Calm S T h (Grows made e) = subst (AllCame S.tvms) (sym e) (λ t now found. ⊎_elim
     (λ old. inl (were_same S.tvms t now old))
     (λ new. inr (new.0, new.1.0 ∙ ap new_tvm new.1.1))

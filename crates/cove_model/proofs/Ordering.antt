@@ -65,7 +65,7 @@ numbers_one Calm S pages h xs ys (Alters t how e numbers each) = ap (map (λ (k 
 
 renumbered : (Calm : Type 0) (S T : State) (h : ℕ) → TvmsChange Calm S T h → Renumbered S T
 renumbered Calm S T h (Once made one) = Kept made (numbers_one Calm S T.pages h S.tvms T.tvms one)
-renumbered Calm S T h (Twice made mid one two) = Kept made (numbers_one Calm S T.pages h mid T.tvms two ∙ numbers_one Calm S T.pages h S.tvms mid one)
+renumbered Calm S T h (Twice made mid one two bound) = Kept made (numbers_one Calm S T.pages h mid T.tvms two ∙ numbers_one Calm S T.pages h S.tvms mid one)
 renumbered Calm S T h (Grows made e) = Added made (ap (map (λ (k : Tvm). k.number)) e ∙ map-append (λ (k : Tvm). k.number) S.tvms (new_tvm (S.made + 1) ∷ []))
 renumbered Calm S T h (Loses t made e pages nobody restless) =
     Fewer (λ n. not (eqb n t)) made (ap (map (λ (k : Tvm). k.number)) e ∙ keys_dropped (λ (k : Tvm). k.number) (λ n. eqb n t) S.tvms)

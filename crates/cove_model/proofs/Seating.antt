@@ -33,7 +33,7 @@ use Rattle.cove_model.specs.Tvms.{Cpu, Tvm, Unbinding, new_tvm}
 abbrev Suits : (R : Cpu → Cpu → Type 0) (S : State) (h u v : ℕ) → Type 0
 Suits R S h u v = (t w : ℕ) (how : Cpu → Cpu) → Spares S h t w how → u ≡ t → v ≡ w → (cpu : Cpu) → R cpu (how cpu)
 
-left_number : (exit : Exit) (cpu : Cpu) → (left_by exit cpu).number ≡ cpu.number
+pub left_number : (exit : Exit) (cpu : Cpu) → (left_by exit cpu).number ≡ cpu.number
 left_number Exit.Fuel cpu = refl
 left_number Exit.Kicked cpu = refl
 left_number Exit.Wfi cpu = refl
@@ -51,7 +51,7 @@ module _ (R : Cpu → Cpu → Type 0) (refl_R : (cpu : Cpu) → R cpu cpu) (then
   stays_cpus Found t tvm now is found runs (CpusStay e) = stay_same R refl_R v tvm now e runs
   stays_cpus Found t tvm now is found runs (AddsCpu w e fresh) = stay_append R refl_R v (new_cpu w ∷ []) tvm now e runs
   stays_cpus Found t tvm now is found runs (Starts pc arg built e) = λ cpu there on. absurd (true≢false (sym on ∙ built found))
-  stays_cpus Found t tvm now is found runs (OnCpu w how e numbers spares) = stay_on_cpu R refl_R v w how numbers (suits t w how spares is) tvm now e runs
+  stays_cpus Found t tvm now is found runs (OnCpu w how e numbers spares binds) = stay_on_cpu R refl_R v w how numbers (suits t w how spares is) tvm now e runs
   stays_cpus Found t tvm now is found runs (Rebinds how e) = stay_map R refl_R v (rebound how) (λ cpu. refl) (rebound_R how) tvm now e runs
   stays_cpus Found t tvm now is found runs (Leaves w exit e spares) =
       let mid : Tvm = record tvm { cpus = map (rebound (left_unbinding h)) tvm.cpus } in
@@ -67,7 +67,7 @@ module _ (R : Cpu → Cpu → Type 0) (refl_R : (cpu : Cpu) → R cpu cpu) (then
   -- what stays of a vCPU of a TVM that is not empty
   stays_tvms : (Calm : Type 0) (T : State) → (harts_inside S u ≡ [] → ⊥) → TvmsChange Calm S T h → TvmStays R u v S.tvms T.tvms
   stays_tvms Calm T some (Once made one) = stays_one Calm T.pages S.tvms T.tvms one
-  stays_tvms Calm T some (Twice made mid one two) = tvm_then R then_R u v S.tvms mid T.tvms (stays_one Calm T.pages S.tvms mid one) (stays_one Calm T.pages mid T.tvms two)
+  stays_tvms Calm T some (Twice made mid one two bound) = tvm_then R then_R u v S.tvms mid T.tvms (stays_one Calm T.pages S.tvms mid one) (stays_one Calm T.pages mid T.tvms two)
   stays_tvms Calm T some (Grows made e) = λ tvm live. record {
     now = tvm;
     live = ap (at (λ (x : Tvm). x.number) u) e ∙ at_append (λ (x : Tvm). x.number) u S.tvms (new_tvm (S.made + 1) ∷ []) tvm live;

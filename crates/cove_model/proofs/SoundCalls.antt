@@ -161,7 +161,7 @@ sound_one Calm S pages h xs ys sound (Alters t how e numbers each) all = subst (
 sound_tvms : (Calm : Type 0) (S T : State) (h : ℕ) → IsSound S → TvmsChange Calm S T h
     → AllByRecursion (IsSoundTvm (on_pages T.pages S)) S.tvms → AllByRecursion (IsSoundTvm (on_pages T.pages S)) T.tvms
 sound_tvms Calm S T h sound (Once made one) all = sound_one Calm S T.pages h S.tvms T.tvms sound one all
-sound_tvms Calm S T h sound (Twice made mid one two) all = sound_one Calm S T.pages h mid T.tvms sound two (sound_one Calm S T.pages h S.tvms mid sound one all)
+sound_tvms Calm S T h sound (Twice made mid one two bound) all = sound_one Calm S T.pages h mid T.tvms sound two (sound_one Calm S T.pages h S.tvms mid sound one all)
 sound_tvms Calm S T h sound (Grows made e) all =
     subst (AllByRecursion (IsSoundTvm (on_pages T.pages S))) (sym e) (all_append (IsSoundTvm (on_pages T.pages S)) S.tvms (new_tvm (S.made + 1) ∷ []) all (tt, tt))
 sound_tvms Calm S T h sound (Loses t made e pages nobody restless) all = subst (AllByRecursion (IsSoundTvm (on_pages T.pages S))) (sym e)

@@ -1,10 +1,11 @@
--- What calls need of numbers: live TVMs differ in theirs, and the mappings of a TVM in their guest pages; a page is given to
--- a live TVM alone.
-use Rattle.std.specs.Prelude.{◌≡◌, ◌≤◌, ℕ, true, false, List, [], ◌∷◌, map, Some}
+-- What calls need of numbers: live TVMs differ in theirs, the mappings of a TVM in their guest pages, and its vCPUs in their
+-- numbers and in the files that they are bound to; a page is given to a live TVM alone.
+use Rattle.std.specs.Prelude.{◌≡◌, ◌≤◌, ℕ, true, false, List, [], ◌∷◌, map, Option, Some, None}
 use Rattle.std.specs.List.{AllByRecursion}
 use Rattle.cove_model.specs.Owners.{Purpose, Given, has, page_at}
-use Rattle.cove_model.specs.States.{State, find_tvm}
-use Rattle.cove_model.specs.Tvms.{Tvm}
+use Rattle.cove_model.specs.Checks.{binding_of}
+use Rattle.cove_model.specs.States.{State, find_tvm, tvm_at}
+use Rattle.cove_model.specs.Tvms.{Binding, Tvm}
 
 -- no number comes twice
 abbrev pub AreDistinct : List ℕ → Type 0
@@ -23,3 +24,25 @@ pub record IsOrderly (S : State) : Type 0 where
   pub made : AllByRecursion (λ n. n ≤ S.made) (numbers_of S)
   pub guests : (t : ℕ) (tvm : Tvm) → find_tvm S t ≡ Some tvm → AreDistinct (guests_of tvm)
   pub given : (p t : ℕ) (purpose : Purpose) → page_at S.pages p ≡ Given t purpose → has t (numbers_of S) ≡ true
+
+-- a file of a hart
+pub record Place : Type 0 where
+  pub hart : ℕ
+  pub file : ℕ
+
+-- the file of a binding, and that of a vCPU, where it is bound
+abbrev pub place_in : Option Binding → Option Place
+place_in None = None
+place_in (Some bound) = Some (record { hart = bound.hart; file = bound.file })
+
+abbrev pub place_of : State → (t v : ℕ) → Option Place
+place_of S t v = place_in (binding_of S t v)
+
+-- the numbers of a TVM's vCPUs
+abbrev pub cpus_of : Tvm → List ℕ
+cpus_of tvm = map (λ cpu. cpu.number) tvm.cpus
+
+-- the numbers of a TVM's vCPUs differ, and no two vCPUs are bound to one file
+pub record AreBoundApart (S : State) : Type 0 where
+  pub cpus : (t : ℕ) → AreDistinct (cpus_of (tvm_at S t))
+  pub files : (t u v w : ℕ) (place : Place) → place_of S t v ≡ Some place → place_of S u w ≡ Some place → (t ≡ u) × (v ≡ w)

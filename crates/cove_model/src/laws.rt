@@ -21,7 +21,7 @@ ghost use Rattle.cove_base.specs.declared.statuses.Status.TheVariants.{NotSuppor
 ghost use Rattle.cove_base.specs.declared.walks.Target.{Target};
 ghost use Rattle.cove_model.specs.HostMemory.{seen_words};
 ghost use Rattle.cove_model.specs.Owners.{page_at};
-ghost use Rattle.cove_model.specs.Answers.{is_built, refusal, reply_by, reply_to};
+ghost use Rattle.cove_model.specs.Answers.{effect, is_built, refusal, reply_by, reply_to};
 ghost use Rattle.cove_model.specs.Examples.{refused};
 ghost use Rattle.cove_model.specs.Fits.{Fits, InsideFits, IsSought, page_for, rings_of};
 ghost use Rattle.cove_model.specs.Cached.{IsCached, IsQuiet, IsQuietAt, IsReached, WasFound};
@@ -30,7 +30,7 @@ ghost use Rattle.cove_model.specs.Histories.{Begins, Follows, Legal, after, afte
 ghost use Rattle.cove_model.specs.Mappings.{mapping_of};
 ghost use Rattle.cove_model.specs.Measured.{IsMeasured};
 ghost use Rattle.cove_model.specs.Offers.{NoneEarlier, Single, Touch, cpu_of, first_behind, is_found, may_succeed, offer};
-ghost use Rattle.cove_model.specs.Orderly.{IsOrderly};
+ghost use Rattle.cove_model.specs.Orderly.{AreBoundApart, IsOrderly};
 ghost use Rattle.cove_model.specs.Played.{IsEnded, IsOver, Play, played, round};
 ghost use Rattle.cove_model.specs.Seated.{IsSeated, IsStill};
 ghost use Rattle.cove_model.specs.Sound.{IsBoardOf, IsSound, IsUsable};
@@ -126,6 +126,14 @@ pub fn states_are_sound()
 /// TVMs alone.
 pub fn states_are_orderly()
     ensures { (script : ScriptValue) (history : List Entry) → IsOrderly (after script history) }
+{}
+
+/// After every history the numbers of a TVM's vCPUs differ, and no two vCPUs are bound to one file of one hart.
+pub fn vcpus_are_bound_apart()
+    ensures states { (script : ScriptValue) (history : List Entry) → AreBoundApart (after script history) }
+    // So it is after each call of the host, whatever state it is made in.
+    ensures calls { (S : State) (hart : ℕ) (call : HostCall)
+        → refusal S hart call ≡ None → AreBoundApart S → AreBoundApart (effect S hart call) }
 {}
 
 /// The words of a TVM's own page stand under its guest page, and host memory has none of them.
