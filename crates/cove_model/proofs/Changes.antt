@@ -1,11 +1,12 @@
 -- What an accepted call of the host does to the live TVMs: each row is classified here, once.
-use Rattle.std.proofs.Common.{◌≡◌, ℕ, ◌+◌, ◌/◌, ◌<◌, Bool, true, false, eqb, eq-eqb, option_map, ◌&&◌, true≢false, map, List, [], ◌∷◌, ◌++◌, Option, Some, None, unwrap_or, is_some, refl, sym, ap, subst, ◌∙◌, ⊎_elim, replicate, arith, length}
+use Rattle.std.proofs.Common.{◌≡◌, ℕ, not, ◌+◌, ◌/◌, ◌<◌, Bool, true, false, eqb, eq-eqb, option_map, ◌&&◌, true≢false, map, List, [], ◌∷◌, ◌++◌, Option, Some, None, unwrap_or, is_some, refl, sym, ap, subst, ◌∙◌, ⊎_elim, replicate, arith, length}
 use Rattle.std.specs.List.{AllByRecursion, list_any, range_with_len}
 use Rattle.std.specs.Option.{option_map_or}
 use Rattle.std.proofs.lemmas.Bool.{and_from, cases_Bool}
 use Rattle.std.proofs.lemmas.Option.{none-some, same_Some}
 use Rattle.std.proofs.lemmas.List.{length-replicate, map-append}
 use Rattle.std.proofs.lemmas.List.FromFn.{length-map-range_with_len}
+use Rattle.cove_base.specs.Ranges.{is_outside}
 use Rattle.cove_base.specs.Measurement.{Record, FinalizeRecord}
 use Rattle.cove_base.specs.declared.calls.HostCall.{HostCall}
 use Rattle.cove_base.specs.declared.calls.HostCall.TheVariants.{Convert, Create, Region, Tables, Measured, Vcpu, Finalize, Zero, Shared, Run, Invalidate, TvmFence, Validate, Remove, Destroy, Bind, Unbind, Unbound, Inject}
@@ -27,7 +28,7 @@ use Rattle.cove_model.specs.Keyed.{alter, at, dropped}
 use Rattle.cove_model.specs.Mappings.{blocked_standing, fenced_standing, fenced_unbinding, is_fenced, left_unbinding, mapping_of, may_follow, own_mappings, rebound, restood, shared_mappings, unblocked_standing}
 use Rattle.cove_model.specs.Measured.{IsPage}
 use Rattle.cove_model.specs.Orderly.{AreDistinct, Place, guests_of, place_in, place_of}
-use Rattle.cove_model.specs.Owners.{Owner, has, page_at, without, words_of, zeros}
+use Rattle.cove_model.specs.Owners.{Owner, every, has, is_free, is_host, page_at, without, words_of, zeros}
 use Rattle.cove_model.specs.Pages.{freed}
 use Rattle.cove_model.specs.Seated.{IsSeated, IsStill}
 use Rattle.cove_model.specs.Sound.{IsHeldWithin, IsSound, IsSoundMapping, IsSoundTvm}
@@ -186,6 +187,33 @@ fenced_run S t tvm gpa n live ok sound x g m found follows = ⊎_elim
     (λ q. q)
     (cases_Bool (is_among gpa n g))
 
+-- a run of pages that is mapped: it is in memory, all its pages pass a test, and none of its guest pages is mapped
+record MapsRun (S : State) (test : Owner → Bool) (t base n gpa : ℕ) : Type 0 where
+  inside : is_outside base n (length S.pages) ≡ false
+  held : not (every test (base / 4096) n S.pages) ≡ false
+  unmapped : list_any (λ g. is_some (mapping_of (tvm_at S t) g)) (guests gpa n) ≡ false
+
+zero_passed : (S : State) (h t base n gpa : ℕ) → Passed (rule S h (Zero t base n gpa)).checks → MapsRun S is_free t base n gpa
+zero_passed S h t base n gpa ok = let run = ok.1.1.1.1.1 in record { inside = run.0; held = run.1.0; unmapped = run.1.1.1.0 }
+
+shared_passed : (S : State) (h t base n gpa : ℕ) → Passed (rule S h (Shared t base n gpa)).checks → MapsRun S is_host t base n gpa
+shared_passed S h t base n gpa ok = let run = ok.1.1.1.1.1 in record { inside = run.0; held = run.1.0; unmapped = run.1.1.1.0 }
+
+-- and one that is measured from another, of a TVM that is built
+record MeasuresRun (S : State) (t src dst n gpa : ℕ) : Type 0 where
+  building : (tvm_at S t).runnable ≡ false
+  source_inside : is_outside src n (length S.pages) ≡ false
+  source : not (every is_host (src / 4096) n S.pages) ≡ false
+  inside : is_outside dst n (length S.pages) ≡ false
+  free : not (every is_free (dst / 4096) n S.pages) ≡ false
+  unmapped : list_any (λ g. is_some (mapping_of (tvm_at S t) g)) (guests gpa n) ≡ false
+
+measured_passed : (S : State) (h t src dst n gpa : ℕ) → Passed (rule S h (Measured t src dst n gpa)).checks → MeasuresRun S t src dst n gpa
+measured_passed S h t src dst n gpa ok =
+    let runs = ok.1.1.1.1.1.1 in
+    let maps = runs.1.1.1.1 in
+    record { building = ok.1.0; source_inside = runs.0; inside = runs.1.0; source = runs.1.1.0; free = runs.1.1.1.0; unmapped = maps.1.0 }
+
 -- a binding whose unbinding changed is at its file
 pub rebound_place : (how : Unbinding → Unbinding) (cpu : Cpu) → place_in (rebound how cpu).binding ≡ place_in cpu.binding
 rebound_place how cpu = go cpu.binding
@@ -228,14 +256,15 @@ change_call S h (Measured t src dst n gpa) ok =
     let contents = page_words_from S src n in
     let size = length_words S (src / 4096) n in
     let new = own_mappings (gpa / 4096) (dst / 4096) contents in
+    let runs = measured_passed S h t src dst n gpa ok in
     alters S T h t _ refl refl (λ tvm. refl) (λ tvm. record {
-      measures = Pages (page_records gpa contents) (λ live. building_found S t tvm live ok.1.0) refl refl (pages_recorded gpa contents);
+      measures = Pages (page_records gpa contents) (λ live. building_found S t tvm live runs.building) refl refl (pages_recorded gpa contents);
       maps = Adds new refl
-          (λ live. mapped_apart S t tvm gpa n new live ok.1.1.1.1.1.1.1.1.1.1.1.0
+          (λ live. mapped_apart S t tvm gpa n new live runs.unmapped
           (pages_own (gpa / 4096) (dst / 4096) contents ∙ ap (range_with_len (gpa / 4096)) (length-map-range_with_len (λ p. words_of (page_at S.pages p)) (src / 4096) n)))
           (λ sound. own_sound T.pages (harts_inside S t) t (gpa / 4096) (dst / 4096) contents
-          (λ i below. memory_given S t dst n gpa ok.1.1.1.1.1.1.1.0 ok.1.1.1.1.1.1.1.1.1.0 i (omega arith))
-          (host_words S sound.pages_sound (src / 4096) n (all_hosts S src n ok.1.1.1.1.1.1.0 ok.1.1.1.1.1.1.1.1.0)));
+          (λ i below. memory_given S t dst n gpa runs.inside runs.free i (omega arith))
+          (host_words S sound.pages_sound (src / 4096) n (all_hosts S src n runs.source_inside runs.source)));
       cpus = CpusStay refl;
     })
 change_call S h (Vcpu t v state) ok =
@@ -250,19 +279,21 @@ change_call S h (Zero t base n gpa) ok =
     let T = outcome_state S h (Zero t base n gpa) in
     let size = length-replicate {A = List ℕ} n zeros in
     let new = own_mappings (gpa / 4096) (base / 4096) (replicate n zeros) in
+    let run = zero_passed S h t base n gpa ok in
     alters S T h t _ refl refl (λ tvm. refl) (λ tvm. remaps ⊥ (find_tvm S t ≡ Some tvm) S T.pages h t tvm _ refl refl refl
     (Adds new refl
-    (λ live. mapped_apart S t tvm gpa n new live ok.1.1.1.1.1.1.1.1.0 (pages_own (gpa / 4096) (base / 4096) (replicate n zeros) ∙ ap (range_with_len (gpa / 4096)) size))
+    (λ live. mapped_apart S t tvm gpa n new live run.unmapped (pages_own (gpa / 4096) (base / 4096) (replicate n zeros) ∙ ap (range_with_len (gpa / 4096)) size))
     (λ sound. own_sound T.pages (harts_inside S t) t (gpa / 4096) (base / 4096) (replicate n zeros)
-    (λ i below. memory_given S t base n gpa ok.1.1.1.1.1.0 ok.1.1.1.1.1.1.0 i (omega arith)) (zeros_all n))))
+    (λ i below. memory_given S t base n gpa run.inside run.held i (omega arith)) (zeros_all n))))
 change_call S h (Shared t base n gpa) ok =
     let T = outcome_state S h (Shared t base n gpa) in
     let new = shared_mappings (gpa / 4096) (base / 4096) n in
+    let run = shared_passed S h t base n gpa ok in
     alters S T h t _ refl refl (λ tvm. refl) (λ tvm. remaps ⊥ (find_tvm S t ≡ Some tvm) S T.pages h t tvm _ refl refl refl
     (Adds new refl
-    (λ live. mapped_apart S t tvm gpa n new live ok.1.1.1.1.1.1.1.1.0 (pages_shared (gpa / 4096) (base / 4096) n))
+    (λ live. mapped_apart S t tvm gpa n new live run.unmapped (pages_shared (gpa / 4096) (base / 4096) n))
     (λ sound. shared_sound T.pages (harts_inside S t) t (gpa / 4096) (base / 4096) n
-    (λ i below. all_hosts S base n ok.1.1.1.1.1.0 ok.1.1.1.1.1.1.0 (base / 4096 + i) (omega arith) (omega arith)))))
+    (λ i below. all_hosts S base n run.inside run.held (base / 4096 + i) (omega arith) (omega arith)))))
 change_call S h (Run t v fuel) ok =
     alters_cpu S (outcome_state S h (Run t v fuel)) h t v _ refl refl (λ cpu. refl)
     (λ seated below x seat lt sits ne is it cpu. absurd (none_runs S x t v seat lt sits ok.1.1.1.1.0 is it)) (StaysBound (λ cpu. refl))

@@ -7,7 +7,7 @@ use Rattle.cove_model.specs.Examples.{board}
 use Rattle.cove_model.specs.HostCalls.{rule}
 use Rattle.cove_model.specs.Owners.{Host, Free, Given, AsData, zeros}
 use Rattle.cove_model.specs.States.{State, new_cpu, opening, seated, tvm_at}
-use Rattle.cove_model.specs.Tvms.{Backing, OwnPage, HostPage, Standing, Present, Blocked, Mapping, Cpu, Tvm, new_tvm}
+use Rattle.cove_model.specs.Tvms.{Backing, OwnPage, HostPage, Standing, Present, Blocked, Mapping, NotBegun, Cpu, Tvm, new_tvm}
 use Rattle.cove_model.specs.Types.{HostCall, Reply}
 
 -- a mapping of a guest page
@@ -58,4 +58,18 @@ abbrev pub building : State
 building = record running {
   tvms = record tenant { runnable = false; mappings = [] } ∷ [];
   seats = λ hart. None;
+}
+
+-- while it is built, on a board of two files a hart: its first vCPU bound to a file of hart 1, and a vCPU of a number to another
+abbrev pub unbound : State
+unbound = record building { files = 2 }
+
+abbrev pub bound_cpus : (number file other : ℕ) → State
+bound_cpus number file other = record unbound {
+  tvms = record tenant {
+    runnable = false;
+    mappings = [];
+    cpus = record first_cpu { binding = Some (record { hart = 1; file = file; unbinding = NotBegun }) }
+        ∷ record (new_cpu number) { binding = Some (record { hart = 1; file = other; unbinding = NotBegun }) } ∷ [];
+  } ∷ [];
 }

@@ -9,10 +9,11 @@ ghost use Rattle.cove_base.specs.declared.events.Exit.TheVariants.{Kicked, Wfi};
 ghost use Rattle.cove_base.specs.declared.statuses.Status.TheVariants.{AlreadyAvailable, AlreadyStarted, Denied, InvalidAddress};
 ghost use Rattle.cove_base.specs.declared.walks.Target.TheVariants.{Access, Fetch};
 ghost use Rattle.cove_model.specs.Examples.{board, refused};
-ghost use Rattle.cove_model.specs.GuestExamples.{building, refused_by, running, standing_of};
+ghost use Rattle.cove_model.specs.GuestExamples.{bound_cpus, building, refused_by, running, standing_of, tenant, unbound};
 ghost use Rattle.cove_model.specs.GuestCalls.{guest_rule};
 ghost use Rattle.cove_model.specs.HostCalls.{ForgetsGuests, rule};
 ghost use Rattle.cove_model.specs.Offers.{Single, is_found, may_succeed, offer, target_of};
+ghost use Rattle.cove_model.specs.Orderly.{AreBoundApart, cpus_of, place_of};
 ghost use Rattle.cove_model.specs.States.{harts_inside, tvm_at};
 ghost use Rattle.cove_model.specs.Owners.{Free, Given, AsRoot, AsState, is_free, page_at};
 ghost use Rattle.cove_model.specs.Pages.{root_of};
@@ -66,4 +67,14 @@ pub fn worked_guest_outcomes()
         ≡ replicate 4 false ++ replicate 3 true ++ replicate 3 false ++ true ∷ false ∷ [] }
     ensures finalized { (tvm_at (rule building 0 (Finalize 1 0x10000 7)).outcome.state 1).records
         ≡ FinalizeRecord 0x10000 7 ∷ [] }
+{}
+
+/// Two vCPUs are bound apart where their numbers and their files differ.
+pub fn worked_bindings()
+    ensures bound { place_of (bound_cpus 1 1 2) 1 1 ≡ Some (record { hart = 1; file = 2 }) }
+    ensures unbound { place_of unbound 1 1 ≡ None }
+    ensures numbers { cpus_of tenant ≡ 0 ∷ 1 ∷ [] }
+    ensures apart { AreBoundApart (bound_cpus 1 1 2) }
+    ensures one_file { AreBoundApart (bound_cpus 1 1 1) → ⊥ }
+    ensures one_number { AreBoundApart (bound_cpus 0 1 2) → ⊥ }
 {}

@@ -20,13 +20,16 @@ pub use examples::{
     worked_fills, worked_lines, worked_plays, worked_quiet, worked_refusals, worked_reports,
     worked_runs, worked_steps, worked_translations, worked_words,
 };
-pub use guest_examples::{worked_guest_outcomes, worked_guest_refusals, worked_guests};
+pub use guest_examples::{
+    worked_bindings, worked_guest_outcomes, worked_guest_refusals, worked_guests,
+};
 pub use laws::{
     entries_of_others_leave_a_running_vcpu, harts_keep_fitting, harts_sit_on_vcpus_that_run,
     legal_histories_are_quiet, legal_histories_begin, offers_are_allowed, one_entry_later,
     others_untouched, played_histories_are_legal, private_pages_are_not_host_memory,
     records_are_sealed, rules_answer, states_are_orderly, states_are_sound, steps_are_determined,
-    still_rounds_are_last, translations_are_usable, unbuilt_calls_are_refused, vcpus_are_bound_apart,
+    still_rounds_are_last, translations_are_usable, unbuilt_calls_are_refused,
+    vcpus_are_bound_apart,
 };
 pub use promises::{first_failing_checks_answer, host_reads_show_host_memory};
 pub use rules::{alone_law, boundary_law, store_law, table_law};
