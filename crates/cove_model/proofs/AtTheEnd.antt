@@ -19,10 +19,6 @@ after_push script history entry = fold_push after_entry (opening script) history
 
 -- ---- the ended lines
 
-ended_cases : (h : ℕ) (o : Option Seat) (S : State) → ((line_ended h o S).ended ≡ S.ended) ⊎ (line_ended h o S ≡ end_line h S)
-ended_cases h None S = inr refl
-ended_cases h (Some seat) S = inl refl
-
 pub ended_length : (S : State) (h : ℕ) (event : Event) → length (after_event S h event).ended ≡ length S.ended
 ended_length S h event = go ((done S h event).seats h) ∙ ap length (framed_done S h event).ended
   where
@@ -67,10 +63,6 @@ line_tvms h (Some seat) S = refl
 pub line_harts : (h : ℕ) (o : Option Seat) (S : State) → (line_ended h o S).harts ≡ S.harts
 line_harts h None S = refl
 line_harts h (Some seat) S = refl
-
-pub line_kicked : (h : ℕ) (o : Option Seat) (S : State) → (line_ended h o S).kicked ≡ S.kicked
-line_kicked h None S = refl
-line_kicked h (Some seat) S = refl
 
 pub after_harts_same : (S : State) (h : ℕ) (event : Event) → (after_event S h event).harts ≡ S.harts
 after_harts_same S h event = line_harts h ((done S h event).seats h) (done S h event) ∙ (framed_done S h event).harts

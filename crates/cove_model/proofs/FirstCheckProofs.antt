@@ -20,7 +20,7 @@ first_or_passed (x ∷ xs) = go x.fails refl (first_or_passed xs)
   where
     go : (b : Bool) → x.fails ≡ b → ((i : ℕ) × ((check : Check) × FailsFirst xs i check)) ⊎ AllPassed xs → ((i : ℕ) × ((check : Check) × FailsFirst (x ∷ xs) i check)) ⊎ AllPassed (x ∷ xs)
     go true e more = inl (0, (x, record { stands = refl; fails = e; earlier = tt }))
-    go false e (inl first) = inl (suc first.0, (first.1.0, record { stands = first.1.1.stands; fails = first.1.1.fails; earlier = (e, first.1.1.earlier) }))
+    go false e (inl (i, (check, first))) = inl (suc i, (check, record { stands = first.stands; fails = first.fails; earlier = (e, first.earlier) }))
     go false e (inr passed) = inr (e, passed)
 
 found_fact : (P : Check → Type 0) (checks : List Check) (i : ℕ) (check : Check) → slice_get checks i ≡ Some check → AllByRecursion P checks → P check
@@ -78,9 +78,9 @@ pub success_by_all : (S : State) (hart : ℕ) (call : HostCall) → ((reply_to S
 success_by_all S hart call = (
   λ e. elim (first_or_passed ((rule_of S hart call).checks)) [
     | inr passed ↦ passed
-    | inl first ↦
-        let never = found_fact (λ c. is_success c.status ≡ false) ((rule_of S hart call).checks) first.0 first.1.0 first.1.1.stands (never_success S hart call) in
-        let is : first.1.0.status ≡ Success = sym (ap (λ r. r.status) (refused_by_first S hart call first.0 first.1.0 first.1.1).0) ∙ e in
+    | inl (i, (check, first)) ↦
+        let never = found_fact (λ c. is_success c.status ≡ false) ((rule_of S hart call).checks) i check first.stands (never_success S hart call) in
+        let is : check.status ≡ Success = sym (ap (λ r. r.status) (refused_by_first S hart call i check first).0) ∙ e in
         absurd (true≢false (sym (ap is_success is) ∙ never))
   ],
   λ passed. ap (λ r. r.status) (accepted_by_all S hart call passed).0,

@@ -41,8 +41,7 @@ pub able_succeeds : (S : State) (h : ℕ) (t : Target) → Able S h t → may_su
 able_succeeds S h (target.Host p) able = able
 able_succeeds S h (target.Fetch g) able =
     let l = able.1 in mapped_from S h g.0 true able.0 (λ m. is_own m.backing && may_follow h m.standing) l (and_from (is_own l.mapping.backing) (may_follow h l.mapping.standing) l.kind l.follows)
-able_succeeds S h (target.Access g) able =
-    let l = able.1.1 in mapped_from S h g.0 able.0 able.1.0 (λ m. may_follow h m.standing) l l.follows
+able_succeeds S h (target.Access g) (own, (p, leads)) = mapped_from S h g.0 own p (λ m. may_follow h m.standing) leads leads.follows
 
 present_follows : (h : ℕ) (s : Standing) → is_present s ≡ true → may_follow h s ≡ true
 present_follows h Present e = refl
@@ -72,7 +71,7 @@ able_other S h k event (target.Host p) sound lt ne able =
     ap (λ ps. may_use h (page_at ps p.0)) (line_pages k ((done S k event).seats k) (done S k event))
     ∙ use_move S (done S k event) k h (page_at S.pages p.0) (page_at (done S k event).pages p.0) (moves S k event p.0) (sound.pages_sound p.0) lt ne able
 able_other S h k event (target.Fetch g) sound lt ne able = (able.0, leads_other S h k event true g.0 able.0 sound lt ne able.1)
-able_other S h k event (target.Access g) sound lt ne able = (able.0, (able.1.0, leads_other S h k event able.0 g.0 able.1.0 sound lt ne able.1.1))
+able_other S h k event (target.Access g) sound lt ne (own, (p, leads)) = (own, (p, leads_other S h k event own g.0 p sound lt ne leads))
 
 pub silent_parts : (since : List Entry) (e : Entry) (h : ℕ) → own (since ++ e ∷ []) h ≡ [] → (own since h ≡ []) × (e.hart.0 ≡ h → ⊥)
 silent_parts since e h s = ⊎_elim

@@ -245,23 +245,3 @@ pub orderly : (script : ScriptValue) (H : List Entry) → IsOrderly (after scrip
 orderly script H =
     let a = after_numbered script H in
     record { numbers = a.distinct; made = a.made; guests = guests_differ script H; given = after_live script H }
-
--- and after an accepted call of the host, whatever state it was made in
-pub orderly_call : (S : State) (h : ℕ) (call : HostCall) → Passed (rule S h call).checks → IsOrderly S → IsOrderly (outcome_state S h call)
-orderly_call S h call ok was =
-    let T = outcome_state S h call in
-    let change = change_call S h call ok in
-    let new = renumbered ⊥ S T h change in
-    let a = numbered S T new (record { distinct = was.numbers; made = was.made }) in
-    record {
-      numbers = a.distinct;
-      made = a.made;
-      guests = λ t tvm live. ⊎_elim
-          (λ old. old.goes.orders (was.guests t old.tvm old.live))
-          (λ fresh. subst (λ x. AreDistinct (guests_of x)) (sym fresh.1) tt)
-          (came_tvms ⊥ S T h change t tvm live);
-      given = λ p u purpose e. ⊎_elim
-          (λ old. lives S T new p u purpose e (was.given p u purpose old))
-          (λ live. live)
-          (origin S T h (page_at S.pages p) (page_at T.pages p) u purpose (move_call S h call p ok) e);
-    }

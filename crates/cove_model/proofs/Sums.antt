@@ -45,26 +45,6 @@ sum_le f g (suc n) le =
     let rest = sum_le f g n (λ k lt. le k (omega arith)) in
     omega arith
 
--- sums that are equal, term by term at most, are equal term by term
-pub sum_exact : (f g : ℕ → ℕ) (n : ℕ) → ((k : ℕ) → k < n → f k ≤ g k) → sum_below g n ≤ sum_below f n → (k : ℕ) → k < n → g k ≤ f k
-unfolding sum_below
-sum_exact f g zero le all k lt = absurd (omega arith)
-sum_exact f g (suc n) le all k lt = go (cases_eq k n) (λ l. sum_exact f g n (λ j q. le j (omega arith)) (less (le n (omega arith)) all) k l)
-  where
-    less : f n ≤ g n → g n + sum_below g n ≤ f n + sum_below f n → sum_below g n ≤ sum_below f n
-    less here all' = omega arith
-
-    front : sum_below f n ≤ sum_below g n
-    front = sum_le f g n (λ j q. le j (omega arith))
-
-    go : (k ≡ n) ⊎ (k ≡ n → ⊥) → (k < n → g k ≤ f k) → g k ≤ f k
-    go (inl q) more =
-        let here = front in
-        let gq = ap g q in
-        let fq = ap f q in
-        omega arith
-    go (inr ne) more = let ne' : k ≢ n = ne in more (omega arith)
-
 below_range : (a n b : ℕ) → a + n ≤ b → AllByRecursion (λ h. h < b) (range_with_len a n)
 below_range a zero b le = tt
 below_range a (suc n) b le = (omega arith, below_range (a + 1) n b (omega arith))
