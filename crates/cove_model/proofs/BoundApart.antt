@@ -13,7 +13,7 @@ use Rattle.cove_model.proofs.BoundPlaces.{place_altered, place_mapped, places_ke
 use Rattle.cove_model.proofs.Changes.{AddsCpu, Alters, Binds, BindsAnew, Cpus, CpusStay, Grows, Leaves, Loses, NoTvm, Once, OnCpu, OneTvm, Rebinds, Starts, StaysBound, TvmsChange, Twice, Unbinds, change_call, place_among, place_at, rebound_place, stopped_by}
 use Rattle.cove_model.proofs.Distinct.{distinct_append, keys_altered, keys_map, none_has}
 use Rattle.cove_model.proofs.GuestChanges.{change_done}
-use Rattle.cove_model.proofs.KeyedLemmas.{at_alter_other, at_alter_same, at_append, at_beyond, at_dropped}
+use Rattle.cove_model.proofs.KeyedLemmas.{at_alter_other, at_alter_same, at_append, at_beyond}
 use Rattle.cove_model.proofs.Measuring.{found_kept, found_last}
 use Rattle.cove_model.proofs.Moves.{outcome_state}
 use Rattle.cove_model.proofs.Passing.{Passed}
@@ -24,9 +24,9 @@ use Rattle.cove_model.specs.Keyed.{alter, at, dropped}
 use Rattle.cove_model.specs.Mappings.{left_unbinding, rebound}
 use Rattle.cove_model.specs.Orderly.{AreBoundApart, AreDistinct, Place, cpus_of, place_in, place_of}
 use Rattle.cove_model.specs.Owners.{Owner, has}
-use Rattle.cove_model.specs.States.{Seat, State, find_tvm, new_cpu, tvm_at}
-use Rattle.cove_model.specs.Steps.{after_event, done, end_line, left_by, line_ended}
-use Rattle.cove_model.specs.Tvms.{Binding, Cpu, Tvm, new_tvm}
+use Rattle.cove_model.specs.States.{Seat, State, new_cpu}
+use Rattle.cove_model.specs.Steps.{after_event, done, line_ended}
+use Rattle.cove_model.specs.Tvms.{Cpu, Tvm, new_tvm}
 
 -- ---- one TVM
 

@@ -1,10 +1,10 @@
 -- Where vCPUs are bound, under changes of one of them and of all.
-use Rattle.std.proofs.Common.{◌≡◌, ℕ, map, List, [], ◌∷◌, ◌++◌, Option, Some, None, option_map, unwrap_or, refl, sym, ap, ◌∙◌, ⊎_elim}
+use Rattle.std.proofs.Common.{◌≡◌, ℕ, map, List, Option, Some, None, option_map, unwrap_or, refl, sym, ap, ◌∙◌, ⊎_elim}
 use Rattle.std.proofs.lemmas.Bool.{cases_eq}
 use Rattle.cove_model.proofs.Changes.{place_among, place_at}
 use Rattle.cove_model.proofs.KeyedLemmas.{at_alter_other, at_alter_same, at_map}
 use Rattle.cove_model.specs.Keyed.{alter, at}
-use Rattle.cove_model.specs.Orderly.{Place, place_in}
+use Rattle.cove_model.specs.Orderly.{place_in}
 use Rattle.cove_model.specs.States.{new_cpu, on_cpu}
 use Rattle.cove_model.specs.Tvms.{Cpu, Tvm, new_tvm}
 

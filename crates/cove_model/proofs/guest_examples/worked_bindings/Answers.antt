@@ -1,4 +1,4 @@
-use Rattle.std.proofs.Common.{◌≡◌, ℕ, Bool, true, false, cond, eqb, true≢false, [], ◌∷◌, Option, Some, None, unwrap_or, refl, sym, ◌∙◌, arith}
+use Rattle.std.proofs.Common.{◌≡◌, ℕ, Bool, true, false, cond, eqb, true≢false, [], Some, None, unwrap_or, refl, sym, ◌∙◌, arith}
 use Rattle.std.proofs.lemmas.Option.{none-some}
 use Rattle.cove_model.proofs.BoundApart.{bound_apart_call}
 use Rattle.cove_model.proofs.guest_examples.worked_bindings.Goals as goal
@@ -7,7 +7,7 @@ use Rattle.cove_model.proofs.Changes.{place_at}
 use Rattle.cove_model.specs.GuestExamples.{first_cpu, tenant, unbound}
 use Rattle.cove_model.specs.HostCalls.{rule}
 use Rattle.cove_model.specs.Orderly.{AreBoundApart, AreDistinct, Place, cpus_of, place_in, place_of}
-use Rattle.cove_model.specs.States.{State, new_cpu}
+use Rattle.cove_model.specs.States.{new_cpu}
 use Rattle.cove_model.specs.Tvms.{Tvm, new_tvm}
 
 abbrev built : Tvm
