@@ -1,6 +1,7 @@
 -- How a history keeps its entries: the bytes of a quote apart from the entry that shows it.
-use Rattle.std.specs.Prelude.{◌≡◌, ℕ, ◌≤◌, Bool, true, nat_lt, List, [], ◌∷◌, length, get_or}
+use Rattle.std.specs.Prelude.{◌≡◌, ℕ, ◌≤◌, Bool, true, nat_lt, List, [], ◌∷◌, length, get_or, map}
 use Rattle.std.specs.List.{list_all}
+use Rattle.cove_base.specs.EventSizes.{are_sized}
 use Rattle.cove_base.specs.declared.compact.CompactEntry.{CompactEntry}
 use Rattle.cove_base.specs.declared.compact.CompactEvent.{CompactEvent}
 use Rattle.cove_base.specs.declared.events.Entry.{Entry}
@@ -53,10 +54,11 @@ quote_is_among quotes (CompactEvent.Guest act reply) = true
 quote_is_among quotes (CompactEvent.Evidence place) = nat_lt place quotes
 quote_is_among quotes (CompactEvent.Exit exit) = true
 
--- how a history keeps its entries: the quote of each is among the quotes, there are no more quotes than entries and no
--- more entries than a history may have, and the capacities are for as many
+-- how a history keeps its entries: the quote of each is among the quotes, its numbers have the bits of their types, there
+-- are no more quotes than entries and no more entries than a history may have, and the capacities are for as many
 pub record IsCompact (entries : List CompactEntry) (quotes : List (List ℕ)) (entry_capacity quote_capacity : ℕ) : Type 0 where
   pub among : list_all (λ entry. quote_is_among (length quotes) entry.event) entries ≡ true
+  pub sized : are_sized (map (entry_of quotes) entries) ≡ true
   pub few_quotes : length quotes ≤ length entries
   pub few_entries : length entries ≤ ENTRY_LIMIT
   pub entry_room : ENTRY_LIMIT ≤ entry_capacity

@@ -1,6 +1,7 @@
 pub mod CallWords
 pub mod CompactEntries
 pub mod Encodings
+pub mod EventSizes
 pub mod EventWords
 pub mod Evidence
 pub mod Executions

@@ -1,6 +1,6 @@
 //! How a history keeps its entries: the bytes of a quote apart from the entry that shows it.
 
-ghost use Rattle.std.specs.Prelude.{◌≡◌, ◌<◌, ◌++◌, length, IsTrue};
+ghost use Rattle.std.specs.Prelude.{◌≡◌, ◌<◌, ◌++◌, [], length, IsTrue};
 ghost use Rattle.std.specs.Vec.{vec_capacity};
 ghost use Rattle.cove_base.specs.CompactEntries.{event_of, quote_is_among, quotes_of};
 
@@ -9,17 +9,18 @@ use crate::events::{Event, Exit, How};
 use crate::numbers::HartId;
 use crate::quotes::Quote;
 use crate::statuses::Reply;
+use std::slice::from_ref;
 
 /// An entry without the bytes of its quote.
 #[derive(Clone, Copy)]
-pub(crate) struct CompactEntry {
+pub struct CompactEntry {
     pub hart: HartId,
     pub event: CompactEvent,
 }
 
 /// An event without the bytes of its quote, which stand in a list of quotes, at this place.
 #[derive(Clone, Copy)]
-pub(crate) enum CompactEvent {
+pub enum CompactEvent {
     Call { call: HostCall, reply: Reply },
     Load { addr: u64, how: How, value: u64 },
     LoadFault { addr: u64 },
@@ -60,24 +61,47 @@ pub(crate) fn compact(quotes: &mut Vec<Quote>, event: Event) -> CompactEvent
     }
 }
 
-/// Puts an event together, with a copy of its quote.
-pub(crate) fn whole(quotes: &[Quote], event: &CompactEvent) -> Event
-    requires { IsTrue (quote_is_among (length quotes.now) event.now) }
-    ensures { result ≡ event_of quotes.now event.now }
+/// Looks at an event as at its quote, if it has one, and the rest.
+pub(crate) fn apart(event: &Event) -> (CompactEvent, &[Quote])
+    ensures event { event_of result.1.now result.0 ≡ event.now }
+    ensures among { IsTrue (quote_is_among (length result.1.now) result.0) }
 {
-    match *event {
-        CompactEvent::Call { call, reply } => Event::Call { call, reply },
-        CompactEvent::Load { addr, how, value } => Event::Load { addr, how, value },
-        CompactEvent::LoadFault { addr } => Event::LoadFault { addr },
-        CompactEvent::Store { addr, value, how } => Event::Store { addr, value, how },
-        CompactEvent::StoreFault { addr, value } => Event::StoreFault { addr, value },
-        CompactEvent::Fetch { how } => Event::Fetch { how },
-        CompactEvent::Exec => Event::Exec,
-        CompactEvent::Access { how } => Event::Access { how },
-        CompactEvent::Guest { act, reply } => Event::Guest { act, reply },
-        CompactEvent::Evidence { place } => Event::Evidence {
-            quote: quotes[place].copy(),
-        },
-        CompactEvent::Exit { exit } => Event::Exit { exit },
+    match event {
+        Event::Call { call, reply } => bare(CompactEvent::Call {
+            call: *call,
+            reply: *reply,
+        }),
+        Event::Load { addr, how, value } => bare(CompactEvent::Load {
+            addr: *addr,
+            how: *how,
+            value: *value,
+        }),
+        Event::LoadFault { addr } => bare(CompactEvent::LoadFault { addr: *addr }),
+        Event::Store { addr, value, how } => bare(CompactEvent::Store {
+            addr: *addr,
+            value: *value,
+            how: *how,
+        }),
+        Event::StoreFault { addr, value } => bare(CompactEvent::StoreFault {
+            addr: *addr,
+            value: *value,
+        }),
+        Event::Fetch { how } => bare(CompactEvent::Fetch { how: *how }),
+        Event::Exec => bare(CompactEvent::Exec),
+        Event::Access { how } => bare(CompactEvent::Access { how: *how }),
+        Event::Guest { act, reply } => bare(CompactEvent::Guest {
+            act: *act,
+            reply: *reply,
+        }),
+        Event::Evidence { quote } => (CompactEvent::Evidence { place: 0 }, from_ref(quote)),
+        Event::Exit { exit } => bare(CompactEvent::Exit { exit: *exit }),
     }
+}
+
+// An event without a quote.
+fn bare<'a>(event: CompactEvent) -> (CompactEvent, &'a [Quote])
+    ensures event { result.0 ≡ event }
+    ensures none { result.1.now ≡ [] }
+{
+    (event, &[])
 }

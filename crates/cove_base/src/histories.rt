@@ -1,10 +1,13 @@
-ghost use Rattle.std.specs.Prelude.{◌≡◌, ◌<◌, ◌≤◌, ◌++◌, [], ◌∷◌, length, IfOk, slice_get};
+ghost use Rattle.std.specs.Prelude.{◌≡◌, ◌<◌, ◌≤◌, ◌++◌, [], ◌∷◌, length, IfOk, IsTrue, slice_get};
+ghost use Rattle.cove_base.specs.CompactEntries.{event_of, quote_is_among};
+ghost use Rattle.cove_base.specs.EventSizes.{are_sized};
 
-use crate::compact::{CompactEntry, compact, whole};
+use crate::compact::{CompactEntry, CompactEvent, apart, compact};
 use crate::events::Entry;
 use crate::limits::ENTRY_LIMIT;
-use crate::numbers::NoMemory;
+use crate::numbers::{HartId, NoMemory};
 use crate::quotes::Quote;
+use crate::sizes::event_fits;
 use std::alloc::Global;
 use std::marker::Model;
 
@@ -49,14 +52,21 @@ impl History {
     }
 
     /// The entry at a place, from 0.
-    pub fn get(&self, i: usize) -> Option<Entry>
+    pub fn get(&self, i: usize) -> Option<LentEntry<'_>>
         ensures { result ≡ slice_get self.now i }
     {
         let entry = self.entries.as_slice().get(i)?;
-        Some(Entry {
-            hart: entry.hart,
-            event: whole(self.quotes.as_slice(), &entry.event),
+        Some(LentEntry {
+            entry: *entry,
+            quotes: self.quotes.as_slice(),
         })
+    }
+
+    /// The numbers of each entry have the bits of their types.
+    pub fn entries_fit(&self)
+        ensures { IsTrue (are_sized self.now) }
+    {
+        let _ = &self.entries;
     }
 
     /// Appends an entry, and takes no memory.
@@ -64,10 +74,61 @@ impl History {
         requires { length self.old < ENTRY_LIMIT }
         ensures { self.new ≡ self.old ++ item ∷ [] }
     {
+        event_fits(&item.event);
         let event = compact(&mut self.quotes, item.event);
         self.entries.push_reserved(CompactEntry {
             hart: item.hart,
             event,
         });
+    }
+}
+
+/// An entry that is lent: the bytes of its quote, if it has one, stay where they are.
+#[derive(Drop)]
+pub struct LentEntry<'a> {
+    entry: CompactEntry,
+    quotes: &'a [Quote],
+}
+
+impl<'a> Model for LentEntry<'a> {
+    ghost use Rattle.std.specs.Prelude.{length, IsTrue};
+    ghost use Rattle.cove_base.specs.declared.events.Entry.{Entry};
+    ghost use Rattle.cove_base.specs.CompactEntries.{entry_of, quote_is_among};
+
+    ghost Value = { Entry };
+
+    ghost view = { λ a. entry_of a.quotes.now a.entry };
+
+    ghost invariant = { λ a. IsTrue (quote_is_among (length a.quotes.now) a.entry.event) };
+}
+
+impl<'a> LentEntry<'a> {
+    /// An entry, lent.
+    pub fn of(entry: &'a Entry) -> Self
+        ensures { result ≡ entry.now }
+    {
+        let (event, quotes) = apart(&entry.event);
+        LentEntry {
+            entry: CompactEntry {
+                hart: entry.hart,
+                event,
+            },
+            quotes,
+        }
+    }
+
+    /// The hart that made it.
+    pub fn hart(&self) -> HartId
+        ensures { result ≡ self.now.hart }
+    {
+        self.entry.hart
+    }
+
+    /// Its event without the bytes of its quote, and the quotes among which they stand.
+    pub fn event(&self) -> (&CompactEvent, &[Quote])
+        ensures event { event_of result.1.now result.0.now ≡ self.now.event }
+        ensures among { IsTrue (quote_is_among (length result.1.now) result.0.now) }
+    {
+        (&self.entry.event, self.quotes)
     }
 }

@@ -18,6 +18,7 @@ mod ranges;
 mod registers;
 mod script_lines;
 mod scripts;
+mod sizes;
 mod statuses;
 mod steps;
 mod stores;
@@ -25,9 +26,10 @@ mod walks;
 mod words;
 
 pub use calls::{GuestAct, HostCall};
+pub use compact::{CompactEntry, CompactEvent};
 pub use events::{Entry, Event, Exit, How, Walked};
 pub use faults::{Kind, ScriptFault};
-pub use histories::History;
+pub use histories::{History, LentEntry};
 pub use instructions::{CsrMode, Insn};
 pub use limits::{
     ENTRY_LIMIT, FILE_LIMIT, FUEL_LIMIT, HART_LIMIT, KEY_LIMIT, PAGE_LIMIT, PHASE_LIMIT,
@@ -46,6 +48,7 @@ pub use ranges::{PageRange, RangeFault, range_of};
 pub use registers::Regs;
 pub use script_lines::Lines;
 pub use scripts::{Fill, Line, Script, ScriptLine};
+pub use sizes::{call_fits, event_fits};
 pub use statuses::{Reply, Status};
 pub use steps::Steps;
 pub use stores::stores_law;

@@ -41,16 +41,6 @@ impl Quote {
         self.len += 1;
     }
 
-    /// A copy. A quote is not `Copy`, since its view forgets the bytes past its length.
-    pub(crate) fn copy(&self) -> Self
-        ensures { result ≡ self.now }
-    {
-        Quote {
-            bytes: self.bytes,
-            len: self.len,
-        }
-    }
-
     /// The bytes.
     pub fn as_slice(&self) -> &[u8]
         ensures bytes { result.now ≡ self.now }

@@ -30,7 +30,8 @@ use Rattle.cove_base.proofs.JoinedWords.{is_word, text_words-joined}
 use Rattle.cove_model.specs.Reports.{entry_line, entry_words}
 use Rattle.cove_text.proofs.JoinedWords.{is_word-hex_text, is_word-natural_text, is_word-number_text, is_word-numbers}
 use Rattle.cove_text.proofs.Numerals.{number_of-natural_text, number_of-number_text}
-use Rattle.cove_journal.specs.Forms.{has_line, is_act_shown, is_event_shown, is_exit_shown, is_fault_cause, is_sized, is_trap_cause}
+use Rattle.cove_journal.specs.Forms.{has_line, is_act_shown, is_event_shown, is_exit_shown, is_fault_cause, is_trap_cause}
+use Rattle.cove_base.specs.EventSizes.{is_sized}
 use Rattle.cove_journal.specs.Journals.{is_readable}
 use Rattle.cove_journal.specs.Reading.{act_of, acted_of, answer_of, answered_of, arguments_of, call_event_of, entry_named, event_named, fault_of, how_of, load_named, made_of, memory_word_of, status_named, store_named, trap_of}
 use Rattle.cove_journal.proofs.HexRead.{bytes_are_small, memory_word_is_no_fault, memory_word_is_read, quote_is_read, word_bytes_are_small}

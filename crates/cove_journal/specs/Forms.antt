@@ -1,9 +1,5 @@
 -- The entries that a journal's line may show.
 use Rattle.std.specs.Prelude.{ℕ, ◌^◌, Bool, true, not, ◌==◌, ◌&&◌, ◌||◌, nat_lt, length}
-use Rattle.std.specs.List.{list_all}
-use Rattle.cove_base.specs.CallWords.{arguments}
-use Rattle.cove_base.specs.EventWords.{act_arguments}
-use Rattle.cove_base.specs.Numbers.{is_u8, is_u64}
 use Rattle.cove_base.specs.declared.calls.GuestAct.{GuestAct}
 use Rattle.cove_base.specs.declared.calls.GuestAct.TheVariants as acts
 use Rattle.cove_base.specs.declared.events.Entry.{Entry}
@@ -44,14 +40,3 @@ is_event_shown _ = true
 -- an entry that has a line
 abbrev pub has_line : Entry → Bool
 has_line entry = nat_lt entry.hart.0 HART_LIMIT && is_event_shown entry.event
-
--- the numbers of an event have 64 bits, and the bytes of its quote 8
-abbrev pub is_sized : Event → Bool
-is_sized (events.Call call reply) = list_all is_u64 (arguments call) && is_u64 reply.value
-is_sized (events.Load addr how value) = is_u64 addr && is_u64 value
-is_sized (events.LoadFault addr) = is_u64 addr
-is_sized (events.Store addr value how) = is_u64 addr && is_u64 value
-is_sized (events.StoreFault addr value) = is_u64 addr && is_u64 value
-is_sized (events.Guest act reply) = list_all is_u64 (act_arguments act) && is_u64 reply.value
-is_sized (events.Evidence quote) = list_all is_u8 quote
-is_sized _ = true

@@ -3,7 +3,8 @@ use Rattle.std.specs.Prelude.{ℕ, ◌-◌, Bool, true, false, ◌&&◌, List, [
 use Rattle.cove_base.specs.Text.{text_lines, text_words}
 use Rattle.cove_base.specs.declared.events.Entry.{Entry}
 use Rattle.cove_model.specs.Reports.{entry_line, report, report_limit}
-use Rattle.cove_journal.specs.Forms.{has_line, is_sized}
+use Rattle.cove_base.specs.EventSizes.{is_sized}
+use Rattle.cove_journal.specs.Forms.{has_line}
 use Rattle.cove_journal.specs.Reading.{entry_named}
 
 -- an entry that has a line, and whose numbers have 64 bits

@@ -1,16 +1,14 @@
 ghost use Rattle.std.specs.Prelude.{◌≡◌, IfSome, IsTrue};
-ghost use Rattle.std.specs.List.{list_all};
-ghost use Rattle.cove_base.specs.EventWords.{act_arguments};
-ghost use Rattle.cove_base.specs.Numbers.{is_u8, is_u64};
+ghost use Rattle.cove_base.specs.EventSizes.{is_sized};
 ghost use Rattle.cove_base.specs.declared.events.Entry.{Entry};
 ghost use Rattle.cove_model.specs.Reports.{entry_line};
-ghost use Rattle.cove_journal.specs.Forms.{has_line, is_act_shown, is_event_shown, is_exit_shown, is_fault_cause, is_sized, is_trap_cause};
+ghost use Rattle.cove_journal.specs.Forms.{has_line, is_act_shown, is_event_shown, is_exit_shown, is_fault_cause, is_trap_cause};
 ghost use Rattle.cove_journal.specs.Journals.{if_shown_by, line_entry};
 
 use crate::reading::read_entry;
 use crate::writing::line;
-use cove_base::{Entry, Event, Exit, GuestAct, HART_LIMIT, Reply, Status};
-use cove_text::{LineBuf, call_fits, numbers_fit};
+use cove_base::{Entry, Event, Exit, GuestAct, HART_LIMIT, LentEntry, Status, event_fits};
+use cove_text::LineBuf;
 
 /// The entry of a line without its line feed: none where the bytes are not exactly what `line` writes for an
 /// entry that has a line.
@@ -32,62 +30,13 @@ fn if_shown_by(bytes: &[u8], entry: Entry) -> Option<Entry>
         return None;
     }
     let mut out = LineBuf::new();
-    line(&entry, &mut out);
+    line(&LentEntry::of(&entry), &mut out);
     if out.as_slice() == bytes {
         Some(entry)
     } else {
         None
     }
 }
-
-/// The numbers of an event have 64 bits, and the bytes of its quote 8.
-pub fn event_fits(event: &Event)
-    ensures { IsTrue (is_sized event.now) }
-{
-    match event {
-        Event::Call { call, reply } => {
-            call_fits(call);
-            reply_fits(*reply);
-        }
-        Event::Load { addr, value, .. }
-        | Event::Store { addr, value, .. }
-        | Event::StoreFault { addr, value } => {
-            let _numbers = (*addr, *value);
-        }
-        Event::LoadFault { addr } => {
-            let _number = *addr;
-        }
-        Event::Guest { act, reply } => {
-            act_fits(*act);
-            reply_fits(*reply);
-        }
-        Event::Evidence { quote } => bytes_fit(quote.as_slice()),
-        Event::Fetch { .. } | Event::Exec | Event::Access { .. } | Event::Exit { .. } => {}
-    }
-}
-
-// The value of an answer has 64 bits.
-fn reply_fits(reply: Reply)
-    ensures { IsTrue (is_u64 reply.value) }
-{
-    let _value = reply.value;
-}
-
-// The arguments of a guest's act have 64 bits.
-fn act_fits(act: GuestAct)
-    ensures { IsTrue (list_all is_u64 (act_arguments act)) }
-{
-    match act {
-        GuestAct::Share { gpa, len } | GuestAct::Unshare { gpa, len } => numbers_fit(&[gpa, len]),
-        GuestAct::Allow { id } | GuestAct::Deny { id } => numbers_fit(&[id]),
-        GuestAct::Extend | GuestAct::Evidence | GuestAct::Other => {}
-    }
-}
-
-// Bytes have 8 bits.
-fn bytes_fit(bytes: &[u8])
-    ensures { IsTrue (list_all is_u8 bytes.now) }
-{}
 
 // Whether an entry has a line.
 fn has_line(entry: &Entry) -> bool

@@ -3,23 +3,27 @@ ghost use Rattle.cove_base.specs.Numbers.{hex_text, natural_text, number_text};
 ghost use Rattle.cove_base.specs.Text.{spaced};
 ghost use Rattle.cove_base.specs.declared.events.Event.TheVariants as events;
 ghost use Rattle.cove_base.specs.declared.events.Exit.TheVariants as exits;
+ghost use Rattle.cove_base.specs.CompactEntries.{event_of, quote_is_among};
 ghost use Rattle.cove_base.specs.EventWords.{act_words, event_words, exit_words, how_text, reply_words, word_text};
 ghost use Rattle.cove_model.specs.Reports.{entry_line};
 ghost use Rattle.cove_journal.specs.Lines.{is_addressable, is_writable, last_line_of, words_after};
 
-use cove_base::{Entry, Event, Exit, Gpn, GuestAct, HostCall, How, QUOTE_LIMIT, Reply};
+use cove_base::{
+    CompactEvent, Exit, Gpn, GuestAct, HostCall, How, LentEntry, QUOTE_LIMIT, Quote, Reply,
+};
 use cove_text::{LINE_LIMIT, LineBuf, put_call, put_decimal, put_hex, put_number};
 
 /// Writes the line of an entry in place of what the buffer held, without a line feed. The page of a fault is one
 /// of 2^52.
-pub fn line(entry: &Entry, out: &mut LineBuf)
+pub fn line(entry: &LentEntry<'_>, out: &mut LineBuf)
     requires { IsTrue (is_writable entry.now.event) }
     ensures text { out.new ≡ entry_line entry.now }
     ensures room { length out.new < LINE_LIMIT }
 {
     out.clear();
-    put_natural(out, entry.hart.0);
-    put_event(out, &entry.event);
+    put_natural(out, entry.hart().0);
+    let (event, quotes) = entry.event();
+    put_event(out, event, quotes);
 }
 
 /// Writes the last line of a journal of `n` entries, without a line feed: `end` where every line of the script is
@@ -38,25 +42,26 @@ pub fn last_line(n: u32, whole: bool, out: &mut LineBuf)
     put_decimal(out, i64::from(n));
 }
 
-// Appends the words of an event, each after a space, as all below.
-fn put_event(out: &mut LineBuf, event: &Event)
-    requires writable { IsTrue (is_writable event.now) }
+// Appends the words of an event whose quote is among these, each after a space, as all below.
+fn put_event(out: &mut LineBuf, event: &CompactEvent, quotes: &[Quote])
+    requires among { IsTrue (quote_is_among (length quotes.now) event.now) }
+    requires writable { IsTrue (is_writable (event_of quotes.now event.now)) }
     requires room { length out.old ≤ 20 }
-    ensures text { out.new ≡ words_after out.old (event_words event.now) }
+    ensures text { out.new ≡ words_after out.old (event_words (event_of quotes.now event.now)) }
     ensures fits { length out.new < LINE_LIMIT }
 {
     match event {
-        Event::Call { call, reply } => put_answered_call(out, call, *reply),
-        Event::Load { addr, how, value } => put_load(out, *addr, *how, *value),
-        Event::LoadFault { addr } => put_load_fault(out, *addr),
-        Event::Store { addr, value, how } => put_store(out, *addr, *value, *how),
-        Event::StoreFault { addr, value } => put_store_fault(out, *addr, *value),
-        Event::Fetch { how } => put_step(out, b"fetch", *how),
-        Event::Exec => put_word(out, b"exec"),
-        Event::Access { how } => put_step(out, b"exec", *how),
-        Event::Guest { act, reply } => put_guest(out, *act, *reply),
-        Event::Evidence { quote } => put_evidence(out, quote.as_slice()),
-        Event::Exit { exit } => put_exit(out, *exit),
+        CompactEvent::Call { call, reply } => put_answered_call(out, call, *reply),
+        CompactEvent::Load { addr, how, value } => put_load(out, *addr, *how, *value),
+        CompactEvent::LoadFault { addr } => put_load_fault(out, *addr),
+        CompactEvent::Store { addr, value, how } => put_store(out, *addr, *value, *how),
+        CompactEvent::StoreFault { addr, value } => put_store_fault(out, *addr, *value),
+        CompactEvent::Fetch { how } => put_step(out, b"fetch", *how),
+        CompactEvent::Exec => put_word(out, b"exec"),
+        CompactEvent::Access { how } => put_step(out, b"exec", *how),
+        CompactEvent::Guest { act, reply } => put_guest(out, *act, *reply),
+        CompactEvent::Evidence { place } => put_evidence(out, quotes[*place].as_slice()),
+        CompactEvent::Exit { exit } => put_exit(out, *exit),
     }
 }
 

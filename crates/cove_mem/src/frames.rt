@@ -80,9 +80,10 @@ impl Memory {
 fn frames_of_zeros(alloc: Global, pages: u32) -> Result<Vec<[u64; WORDS]>, NoMemory>
     ensures { IfOk result (λ frames. frames.items ≡ replicate pages zeros) }
 {
+    let one = [frame_of_zeros()];
     let mut frames = Vec::with_capacity(alloc, pages as usize)?;
     for _ in 0..pages {
-        frames.push(frame_of_zeros())?;
+        frames.extend_from_slice(&one)?;
     }
     Ok(frames)
 }

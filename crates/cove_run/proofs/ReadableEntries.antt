@@ -1,14 +1,15 @@
 -- Every entry of a legal history has a line, which names it where the entry's numbers have 64 bits.
-use Rattle.std.proofs.Common.{◌≡◌, ℕ, suc, ◌<◌, true, List, [], ◌∷◌, ◌++◌, length, get_or, Some, IsTrue, refl, arith}
+use Rattle.std.proofs.Common.{◌≡◌, ℕ, true, List, [], ◌∷◌, ◌++◌, Some, IsTrue, refl, arith}
 use Rattle.std.specs.List.{list_all}
-use Rattle.std.proofs.lemmas.Bool.{and_from, lt-ltb}
+use Rattle.std.proofs.lemmas.Bool.{and_from, and_parts, lt-ltb}
 use Rattle.cove_base.proofs.ScriptLimits.{limits_of}
 use Rattle.cove_base.specs.Scripts.{ScriptValue, is_within_limits}
 use Rattle.cove_base.specs.declared.events.Entry.{Entry}
 use Rattle.cove_base.specs.declared.events.Event.{Event}
 use Rattle.cove_base.specs.declared.events.Event.TheVariants as events
 use Rattle.cove_base.specs.declared.limits.TheConstants.{HART_LIMIT}
-use Rattle.cove_journal.specs.Forms.{is_event_shown, is_sized}
+use Rattle.cove_base.specs.EventSizes.{are_sized, is_sized}
+use Rattle.cove_journal.specs.Forms.{is_event_shown}
 use Rattle.cove_journal.specs.Journals.{is_readable}
 use Rattle.cove_model.specs.Histories.{EachEntry, Legal, after}
 use Rattle.cove_model.specs.States.{ended_by}
@@ -30,21 +31,18 @@ event_is_shown (events.Evidence quote) line is = absurd (none-some line is)
 event_is_shown (events.Exit exit) line is = absurd (none-some line is)
 event_is_shown _ line is = refl
 
--- the numbers of each entry have 64 bits
-abbrev pub AreSized : List Entry → Type 0
-AreSized history = (i : ℕ) (d : Entry) → i < length history → IsTrue (is_sized (get_or history i d).event)
-
 each_is_readable : (script : ScriptValue) → IsTrue (is_within_limits script) → (before history : List Entry)
-    → EachEntry (λ pre entry. Allows script (after script pre) entry.hart.0 entry.event) before history → AreSized history → list_all is_readable history ≡ true
+    → EachEntry (λ pre entry. Allows script (after script pre) entry.hart.0 entry.event) before history → are_sized history ≡ true → list_all is_readable history ≡ true
 each_is_readable script within before [] each sized = refl
 each_is_readable script within before (entry ∷ history) each sized =
+    let both = and_parts (is_sized entry.event) (are_sized history) sized in
     let limits = limits_of script within in
     let due = made_due script before entry.hart.0 entry.event each.0 in
     let on_board = line_on_board script entry.hart.0 (ended_by (after script before) entry.hart.0) due.next limits due.found in
     let few = limits.few_harts in
     and_from _ _
-    (and_from _ _ (and_from _ _ (lt-ltb entry.hart.0 HART_LIMIT (omega arith)) (event_is_shown entry.event due.next.line due.is)) (sized 0 entry (omega arith)))
-    (each_is_readable script within (before ++ entry ∷ []) history each.1 (λ i d below. sized (suc i) d (omega arith)))
+    (and_from _ _ (and_from _ _ (lt-ltb entry.hart.0 HART_LIMIT (omega arith)) (event_is_shown entry.event due.next.line due.is)) both.0)
+    (each_is_readable script within (before ++ entry ∷ []) history each.1 both.1)
 
-pub legal_is_readable : (script : ScriptValue) → IsTrue (is_within_limits script) → (history : List Entry) → Legal script history → AreSized history → list_all is_readable history ≡ true
+pub legal_is_readable : (script : ScriptValue) → IsTrue (is_within_limits script) → (history : List Entry) → Legal script history → are_sized history ≡ true → list_all is_readable history ≡ true
 legal_is_readable script within history legal sized = each_is_readable script within [] history legal sized

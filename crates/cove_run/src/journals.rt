@@ -1,11 +1,9 @@
 //! The printed journal, read again.
 
-ghost use Rattle.std.specs.Prelude.{◌≡◌, ◌<◌, ◌≤◌, ℕ, true, false, length, slice_index_or, Some, IsTrue};
+ghost use Rattle.std.specs.Prelude.{◌≡◌, ◌≤◌, true, false, length, Some, IsTrue};
 ghost use Rattle.std.specs.List.{list_all};
 ghost use Rattle.cove_base.specs.Scripts.{ScriptValue, is_within_limits};
-ghost use Rattle.cove_base.specs.declared.events.Entry.{Entry};
 ghost use Rattle.cove_base.specs.declared.limits.TheConstants.{ENTRY_LIMIT};
-ghost use Rattle.cove_journal.specs.Forms.{is_sized};
 ghost use Rattle.cove_journal.specs.Journals.{is_readable, journal_history};
 ghost use Rattle.cove_model.specs.Histories.{Follows, Legal};
 ghost use Rattle.cove_model.specs.Played.{IsOver};
@@ -14,7 +12,6 @@ ghost use Rattle.cove_run.specs.Printing.{AreWritable};
 ghost use Rattle.cove_run.specs.TopCall.{IsHistoryOf, IsReadBack};
 
 use cove_base::{History, Script};
-use cove_journal::event_fits;
 
 /// What `tsm_alone` prints at its statuses 0 and 4 is read back: the journal of every history that the program holds
 /// and that is legal for a script within the limits reads as that history, and tells whether every line is ended.
@@ -27,7 +24,7 @@ pub fn printed_journals_are_read_back(history: &History)
     ensures limit { (script : ScriptValue) → IsTrue (is_within_limits script) → Legal script history.now
         → journal_history (report_limit history.now) ≡ Some (history.now, false) }
 {
-    entries_fit(history);
+    history.entries_fit();
 }
 
 /// What holds of every history of a script.
@@ -41,16 +38,4 @@ pub(crate) fn history_facts(history: &History, script: &Script)
     printed_journals_are_read_back(history);
     let _pages = script.pages;
     let _entries = history.len();
-}
-
-// The numbers of the entries of a history have 64 bits.
-fn entries_fit(history: &History)
-    ensures { (i : ℕ) (d : Entry) → i < length history.now → IsTrue (is_sized (slice_index_or history.now i d).event) }
-{
-    for i in 0..history.len() {
-        let Some(entry) = history.get(i) else {
-            unreachable!()
-        };
-        event_fits(&entry.event);
-    }
 }

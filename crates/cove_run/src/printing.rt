@@ -7,7 +7,7 @@ ghost use Rattle.cove_journal.specs.Lines.{is_writable, last_line_of};
 ghost use Rattle.cove_model.specs.Reports.{ended_line, entry_line, journal};
 ghost use Rattle.cove_run.specs.Printing.{AreWritable, kind_text, refused_line};
 
-use cove_base::{Entry, History, Kind};
+use cove_base::{History, Kind, LentEntry};
 use cove_io::{Failed, Sink, write_all};
 use cove_journal::{last_line, line};
 use cove_text::{LineBuf, put_decimal};
@@ -38,7 +38,7 @@ pub fn print_journal<K: Sink>(history: &History, is_whole: bool, sink: &mut K) -
 }
 
 // The line of an entry, with its line feed.
-fn put_line(text: &mut LineBuf, entry: &Entry)
+fn put_line(text: &mut LineBuf, entry: &LentEntry<'_>)
     requires { IsTrue (is_writable entry.now.event) }
     ensures { text.new ≡ ended_line (entry_line entry.now) }
 {

@@ -4,8 +4,8 @@ ghost use Rattle.cove_model.specs.Grammar.{script_of};
 ghost use Rattle.cove_model.specs.ScriptText.{script_text};
 ghost use Rattle.cove_script.specs.MachineNumbers.{AreBytes, HasBytes, HasFittingNumbers, fits, line_numbers};
 
-use cove_base::{Fill, Line, SCRIPT_LIMIT, Script, ScriptLine};
-use cove_text::{call_fits, numbers_fit};
+use cove_base::{Fill, Line, SCRIPT_LIMIT, Script, ScriptLine, call_fits};
+use cove_text::numbers_fit;
 
 /// What `print` writes is read back: the canonical text of a script is that script's, where it has at most
 /// `SCRIPT_LIMIT` bytes.
@@ -45,7 +45,7 @@ fn line_fits(line: &Line)
     ensures { list_all fits (line_numbers line.now) ≡ true }
 {
     match line {
-        Line::Call(call) => call_fits(call),
+        Line::Call(call) => call_fits(*call),
         Line::Load { addr } => numbers_fit(&[*addr]),
         Line::Store { addr, value } => numbers_fit(&[*addr, *value]),
     }

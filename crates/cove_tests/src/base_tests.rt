@@ -42,6 +42,16 @@ fn entry(event: Event) -> Entry {
     }
 }
 
+// Whether an entry shows a quote of the byte 7.
+fn shows_seven(entry: &LentEntry<'_>) -> bool {
+    match entry.event() {
+        (CompactEvent::Evidence { place }, quotes) => {
+            quotes[*place].as_slice() == [7].as_slice()
+        }
+        _ => false,
+    }
+}
+
 #[test]
 fn a_history_shows_its_entries(rt: HostRuntime) -> Result<(), Fail> {
     let mut history = History::new(rt.alloc())?;
@@ -51,12 +61,11 @@ fn a_history_shows_its_entries(rt: HostRuntime) -> Result<(), Fail> {
     history.push(entry(Event::Exec));
     history.push(entry(Event::Evidence { quote }));
     assert_eq!(rt; history.len(), 2);
-    assert_eq!(rt; history.get(0).map(|entry| entry.hart.0), Some(1));
-    let is_kept = match history.get(1).map(|entry| entry.event) {
-        Some(Event::Evidence { quote }) => quote.as_slice() == [7].as_slice(),
-        _ => false,
-    };
-    assert!(rt; is_kept, "the quote");
+    assert_eq!(rt; history.get(0).map(|entry| entry.hart().0), Some(1));
+    assert!(rt;
+        history.get(1).is_some_and(|entry| shows_seven(&entry)),
+        "the quote"
+    );
     assert!(rt; history.get(2).is_none());
     Ok(())
 }

@@ -1,4 +1,4 @@
-use cove_base::{Entry, Event, Exit, Gpn, HartId, HostCall, How, Reply, Status};
+use cove_base::{Entry, Event, Exit, Gpn, HartId, HostCall, How, LentEntry, Reply, Status};
 use cove_journal::{last_line, line, parse_line};
 use cove_text::LineBuf;
 
@@ -15,7 +15,7 @@ fn lines_are_written(rt: HostRuntime) {
             },
         },
     };
-    line(&refused, &mut out);
+    line(&LentEntry::of(&refused), &mut out);
     assert_eq!(rt; out.as_slice(), b"2 convert 0x4000 0xc = -5 0x1".as_slice());
     let load = Entry {
         hart: HartId(0),
@@ -25,7 +25,7 @@ fn lines_are_written(rt: HostRuntime) {
             value: 0x6f,
         },
     };
-    line(&load, &mut out);
+    line(&LentEntry::of(&load), &mut out);
     assert_eq!(rt;
         out.as_slice(),
         b"0 ld 0x1008 walk 000000000000006f".as_slice()
@@ -39,7 +39,7 @@ fn lines_are_written(rt: HostRuntime) {
             },
         },
     };
-    line(&fault, &mut out);
+    line(&LentEntry::of(&fault), &mut out);
     assert_eq!(rt; out.as_slice(), b"7 exit fault 21 0x10000".as_slice());
     last_line(3, true, &mut out);
     assert_eq!(rt; out.as_slice(), b"end 3".as_slice());

@@ -1,11 +1,11 @@
-ghost use Rattle.std.specs.Prelude.{◌≡◌, ◌+◌, ◌*◌, ◌≤◌, [], ◌∷◌, ◌++◌, length, flat_map, bytes_eq, IsTrue, Some};
-ghost use Rattle.std.specs.List.{list_all, list_any};
-ghost use Rattle.cove_base.specs.Numbers.{is_u64, number_text};
+ghost use Rattle.std.specs.Prelude.{◌≡◌, ◌+◌, ◌*◌, ◌≤◌, [], ◌∷◌, ◌++◌, length, flat_map, bytes_eq, Some};
+ghost use Rattle.std.specs.List.{list_any};
+ghost use Rattle.cove_base.specs.Numbers.{number_text};
 ghost use Rattle.cove_base.specs.Text.{spaced};
 ghost use Rattle.cove_base.specs.CallWords.{arguments, call_of, call_text, is_call_word, word_of};
 
 use crate::line_buf::{LINE_LIMIT, LineBuf};
-use crate::numbers::{numbers_fit, put_number};
+use crate::numbers::put_number;
 use arrayvec::ArrayVec;
 use cove_base::HostCall;
 
@@ -302,13 +302,6 @@ fn word_of(call: &HostCall) -> &'static [u8]
         HostCall::Unbound { .. } => b"unbound",
         HostCall::Inject { .. } => b"inject",
     }
-}
-
-/// The arguments of a call have 64 bits.
-pub fn call_fits(call: &HostCall)
-    ensures { IsTrue (list_all is_u64 (arguments call.now)) }
-{
-    numbers_fit(arguments_of(call).as_slice());
 }
 
 /// What `put_call` writes is read back: the call of a call's word and arguments is that call.

@@ -2,7 +2,8 @@ use Rattle.std.proofs.Common.{◌≡◌, ℕ, List, Option, Some, None, IsTrue, 
 use Rattle.std.proofs.lemmas.Bool.{and_from, and_parts}
 use Rattle.cove_base.specs.declared.events.Entry.{Entry}
 use Rattle.cove_model.specs.Reports.{entry_line}
-use Rattle.cove_journal.specs.Forms.{has_line, is_sized}
+use Rattle.cove_base.specs.EventSizes.{is_sized}
+use Rattle.cove_journal.specs.Forms.{has_line}
 use Rattle.cove_journal.specs.Journals.{if_shown_by, line_entry}
 use Rattle.cove_journal.proofs.JournalsRead.{line_is_read, shown}
 use Rattle.cove_journal.proofs.parsing.parse_line.Goals as goal

@@ -3,7 +3,7 @@ use Rattle.std.specs.List.{list_all}
 use Rattle.std.proofs.lemmas.Bool.{lt-ltb}
 use Rattle.std.proofs.lemmas.List.Recursion.{and_from_places}
 use Rattle.cove_base.specs.Numbers.{is_u8}
-use Rattle.cove_journal.proofs.parsing.bytes_fit.Goals as goal
+use Rattle.cove_base.proofs.sizes.bytes_fit.Goals as goal
 
 pub returns : goal.returns
 returns c =

@@ -1,5 +1,5 @@
 use Rattle.std.proofs.lemmas.Bool.{and_from}
-use Rattle.cove_journal.proofs.parsing.event_fits.Goals as goal
+use Rattle.cove_base.proofs.sizes.event_fits.Goals as goal
 
 pub returns-in-Call : goal.returns-in-Call
 returns-in-Call c = rw c.in-Call.is (and_from _ _ c.call_fits.ensures c.reply_fits.ensures)
