@@ -13,7 +13,7 @@ use Rattle.cove_model.proofs.LeafWords.{none_named}
 use Rattle.cove_model.proofs.Lists.{replicate_zero}
 use Rattle.cove_model.specs.LawfulStores.{AreOwned, ChangesTable, IsLeft, IsRoot, Rewrites}
 use Rattle.cove_model.specs.Owners.{has}
-use Rattle.cove_model.specs.TableExamples.{entered, rooted}
+use Rattle.cove_model.specs.TableExamples.{entered_words, rooted}
 use Rattle.cove_model.specs.TableLaw.{shared_leaves}
 use Rattle.cove_stage2.proofs.ZeroLemmas.{empty-entries, empty-tree}
 
@@ -115,7 +115,7 @@ counted (suc (suc (suc (suc p)))) maps on is = let root = root_word p (omega ari
 pub leaving : IsBeingCleared 8 1 rooted 1 4 (2 ∷ [])
 leaving = record { clearable = clearable; gathered = gathered; counted = counted }
 
-pub not_inside : IsBeingCleared 8 1 entered 1 4 (2 ∷ []) → ⊥
+pub not_inside : IsBeingCleared 8 1 entered_words 1 4 (2 ∷ []) → ⊥
 not_inside going = going.clearable.left 0 (omega arith) (0, (omega arith, get_or-set_same rooted 4123 (2 ^ 32) 0 (omega (arith, size))))
 
 pub not_miscounted : IsBeingCleared 8 1 (set rooted 0 (host 1)) 1 4 (2 ∷ []) → ⊥

@@ -8,13 +8,13 @@ ghost use Rattle.cove_base.specs.Tables.{IsLinkSlot, Slot, entry_at, next_table}
 ghost use Rattle.cove_base.specs.declared.numbers.Role.TheVariants.{Data};
 ghost use Rattle.cove_clear.specs.Clearing.{AreGathered, Clears, IsBeingCleared, MayBeCleared, Proceeds};
 ghost use Rattle.cove_model.specs.LawfulStores.{IsLawful};
-ghost use Rattle.cove_model.specs.TableExamples.{entered, rooted};
+ghost use Rattle.cove_model.specs.TableExamples.{entered_words, rooted};
 
 /// TVM 1 may be destroyed further where page 2 of its memory, which no leaf names, was gathered; not where a hart is inside, or
 /// where page 0 of the host's counts a leaf that is none. Its words must allow every lawful store.
 pub fn worked_being_cleared()
     ensures leaving { IsBeingCleared 8 1 rooted 1 4 (2 ∷ []) }
-    ensures inside { IsBeingCleared 8 1 entered 1 4 (2 ∷ []) → ⊥ }
+    ensures inside { IsBeingCleared 8 1 entered_words 1 4 (2 ∷ []) → ⊥ }
     ensures lost { IsBeingCleared 8 1 rooted 1 4 [] → ⊥ }
     ensures miscounted { IsBeingCleared 8 1 (slice_set rooted 0 (host 1)) 1 4 (2 ∷ []) → ⊥ }
     ensures may { MayBeCleared (IsLawful 8 1 0 rooted) 8 4 rooted (2 ∷ []) }

@@ -15,7 +15,7 @@ use Rattle.cove_base.proofs.ScriptLimits.{limits_of}
 use Rattle.cove_base.specs.Scripts.{ScriptValue, is_fill, is_within_limits}
 use Rattle.cove_base.specs.declared.scripts.Fill.{Fill}
 use Rattle.cove_core.specs.Bytes.{FramesShow, with_byte_at}
-use Rattle.cove_mem.specs.Frames.{frame, with_word, zeros}
+use Rattle.cove_mem.specs.Frames.{frame, with_word, zero_frame}
 use Rattle.cove_model.proofs.Runs.{opening_length, opening_page, opening_size}
 use Rattle.cove_model.specs.States.{byte_after, opening, opening_byte, opening_words}
 use Rattle.cove_model.specs.WordsStand.{FramesStand}
@@ -122,14 +122,14 @@ pub opening_more : (fills : List Fill) (i : ℕ) (fill : Fill) (a : ℕ) → i <
 opening_more fills i fill a below is = rw (take_more fills i fill below, fold-append, ← is)
 
 -- new frames show zeros
-pub show_zeros : (n : ℕ) → FramesShow (replicate n zeros) (λ a. 0)
-unfolding zeros
+pub show_zeros : (n : ℕ) → FramesShow (replicate n zero_frame) (λ a. 0)
+unfolding zero_frame
 show_zeros n =
-    let long : length (replicate n zeros) ≡ n = length-replicate n zeros in
+    let long : length (replicate n zero_frame) ≡ n = length-replicate n zero_frame in
     record {
       small = λ a. omega arith;
-      size = λ p below. rw (get_or-replicate n p zeros [] (omega (arith, long))) (length-replicate {A = ℕ} 512 0);
-      word = λ p i below small. rw (get_or-replicate n p zeros [] (omega (arith, long))) (get_or-replicate 512 i 0 0 small);
+      size = λ p below. rw (get_or-replicate n p zero_frame [] (omega (arith, long))) (length-replicate {A = ℕ} 512 0);
+      word = λ p i below small. rw (get_or-replicate n p zero_frame [] (omega (arith, long))) (get_or-replicate 512 i 0 0 small);
     }
 
 opening_word : (fills : List Fill) (p i : ℕ) → i < 512 → get_or (opening_words fills p) i 0 ≡ from_le_bytes w64 (map (opening_byte fills) (range_with_len (4096 * p + 8 * i) 8))

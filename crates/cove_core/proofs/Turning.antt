@@ -51,7 +51,7 @@ use Rattle.cove_model.specs.Fits.{Fits}
 use Rattle.cove_model.specs.Histories.{EachEntry, Legal, after}
 use Rattle.cove_model.specs.Offers.{Behind, Nothing, Offer, Touch, first_behind, host_target, line_offer, offer, outside_offer, sought, target_of}
 use Rattle.cove_model.specs.Owners.{has, is_host, page_at}
-use Rattle.cove_model.specs.Played.{Found, Missing, Note, Play, Unwalked, ended_event, ending, entered, entry_by, entry_turn, noted, sought_turn, turn, walked, walks_first}
+use Rattle.cove_model.specs.Played.{Note, Play, Unwalked, WalkFound, WalkMissed, ended_event, ending, entered, entry_by, entry_turn, noted, sought_turn, turn, walked, walks_first}
 use Rattle.cove_model.specs.States.{State, ended_by, page_of, word_at}
 use Rattle.cove_model.specs.Steps.{Allows, Takes}
 use Rattle.cove_model.specs.Translations.{Came, Failed, Arrival, host_touched, tlb, touched}
@@ -95,7 +95,7 @@ module _ (script : ScriptValue) (limits : Limits script) (H : List Entry) (legal
       by_way (Came Walk) right' named = absurd (false≢true (sym right'.0 ∙ named))
       by_way Failed right' named = absurd (false≢true (sym right' ∙ named))
 
-  found_ends : HasUnusedWalk held.walked true → (way : Arrival) → Reaches script H held.hart (host_at p) way → IsToldHow words held.rings host p way → EndsSo holds Found host way
+  found_ends : HasUnusedWalk held.walked true → (way : Arrival) → Reaches script H held.hart (host_at p) way → IsToldHow words held.rings host p way → EndsSo holds WalkFound host way
   found_ends has_walked way right told = by_way way right told (walk_is script limits H legal words stand held fits l next p asks true has_walked).absent
     where
       no_fault : found p held.rings.hosts ≡ None → host ≡ false → ⊥
@@ -104,12 +104,12 @@ module _ (script : ScriptValue) (limits : Limits script) (H : List Entry) (legal
         | inr word ↦ false≢true (sym off ∙ told_host word)
       ]
 
-      by_way : (way' : Arrival) → Reaches script H held.hart (host_at p) way' → IsToldHow words held.rings host p way' → holds ≡ false → EndsSo holds Found host way'
+      by_way : (way' : Arrival) → Reaches script H held.hart (host_at p) way' → IsToldHow words held.rings host p way' → holds ≡ false → EndsSo holds WalkFound host way'
       by_way (Came Hit) right' told' lacks = absurd (false≢true (sym lacks ∙ right'))
-      by_way (Came Walk) right' told' lacks = ends_by false Found (Came Walk) lacks (refl, refl)
+      by_way (Came Walk) right' told' lacks = ends_by false WalkFound (Came Walk) lacks (refl, refl)
       by_way Failed right' told' lacks = absurd (no_fault told'.0 told'.1)
 
-  missing_ends : HasUnusedWalk held.walked false → (way : Arrival) → Reaches script H held.hart (host_at p) way → IsToldHow words held.rings host p way → EndsSo holds Missing host way
+  missing_ends : HasUnusedWalk held.walked false → (way : Arrival) → Reaches script H held.hart (host_at p) way → IsToldHow words held.rings host p way → EndsSo holds WalkMissed host way
   missing_ends has_walked way right told = by_way way right told (walk_is script limits H legal words stand held fits l next p asks false has_walked).absent
     where
       is_the_hosts : IsWithinReach words held.rings p → host ≡ true
@@ -118,16 +118,16 @@ module _ (script : ScriptValue) (limits : Limits script) (H : List Entry) (legal
         | inr word ↦ told_host word
       ]
 
-      by_way : (way' : Arrival) → Reaches script H held.hart (host_at p) way' → IsToldHow words held.rings host p way' → holds ≡ false → EndsSo holds Missing host way'
+      by_way : (way' : Arrival) → Reaches script H held.hart (host_at p) way' → IsToldHow words held.rings host p way' → holds ≡ false → EndsSo holds WalkMissed host way'
       by_way (Came Hit) right' told' lacks = absurd (false≢true (sym lacks ∙ right'))
-      by_way (Came Walk) right' told' lacks = ends_by false Missing (Came Walk) lacks (refl, ap (ending false Missing) (is_the_hosts told'))
-      by_way Failed right' told' lacks = ends_by false Missing Failed lacks (refl, ap (ending false Missing) told'.1)
+      by_way (Came Walk) right' told' lacks = ends_by false WalkMissed (Came Walk) lacks (refl, ap (ending false WalkMissed) (is_the_hosts told'))
+      by_way Failed right' told' lacks = ends_by false WalkMissed Failed lacks (refl, ap (ending false WalkMissed) told'.1)
 
   -- an access of a play ends in the way of the hart's
   pub ends_so : (way : Arrival) → Reaches script H held.hart (host_at p) way → IsToldHow words held.rings host p way → EndsSo holds (note_of held.walked) host way
   ends_so way right told = go held.walked refl
     where
-      by_finding : (finding : Bool) → HasUnusedWalk held.walked finding → EndsSo holds (cond finding Found Missing) host way
+      by_finding : (finding : Bool) → HasUnusedWalk held.walked finding → EndsSo holds (cond finding WalkFound WalkMissed) host way
       by_finding true has_walked = found_ends has_walked way right told
       by_finding false has_walked = missing_ends has_walked way right told
 
@@ -282,7 +282,7 @@ walk_turned script within words mon kept held left fits phase is_walked l next r
       (ap (λ (v : HartValue). note_of v.walked) (sym is_walked.left_is) ∙ sym (takes play e mine).own ∙ ap (λ (p : Play). p.notes held.hart) same ∙ mine ∙ ap note_of none);
 }
   where
-    walk_is_noted : (b : Bool) → cond b Found Missing ≡ Unwalked → ⊥
+    walk_is_noted : (b : Bool) → cond b WalkFound WalkMissed ≡ Unwalked → ⊥
     walk_is_noted true e = cc
     walk_is_noted false e = cc
 
@@ -304,8 +304,8 @@ walk_turned script within words mon kept held left fits phase is_walked l next r
         let is = turn_open ENTRY_LIMIT script play held.hart room
         ∙ walk_sought script play S held.hart p (offer script S held.hart) (sought script S held.hart) seeks sought_it.absent (mine ∙ ap note_of none) in
         let tells = found_rightly words (is_host (page_at S.pages p)) p is_walked.walked is_walked.finds (words_tell_host script.pages script.harts words S p below (kept_stand script words mon kept).stands.owners) in
-        turn_by script play held.hart mon.history (cond (is_host (page_at S.pages p)) Found Missing) left.walked is
-        (ap (λ b. cond b Found Missing) tells ∙ sym (ap (λ (v : HartValue). note_of v.walked) is_walked.left_is))
+        turn_by script play held.hart mon.history (cond (is_host (page_at S.pages p)) WalkFound WalkMissed) left.walked is
+        (ap (λ b. cond b WalkFound WalkMissed) tells ∙ sym (ap (λ (v : HartValue). note_of v.walked) is_walked.left_is))
 
     takes : (play : Play) → play.history ≡ mon.history → play.notes held.hart ≡ note_of held.walked → IsTurn script play held.hart mon.history left.walked
     takes play e mine = at_history script mon.history mon.history held.hart left.walked play e (taken play.notes mine)

@@ -12,12 +12,12 @@ use Rattle.cove_core.specs.declared.plays.Built.{Built}
 use Rattle.cove_hart.specs.HartStates.{hart_value}
 use Rattle.cove_hart.specs.declared.states.HartState.{HartState}
 use Rattle.cove_model.specs.Fits.{Fits}
-use Rattle.cove_model.specs.Played.{Found, Missing, Note, Play, Unwalked, round, rounds, turn, unplayed}
+use Rattle.cove_model.specs.Played.{Note, Play, Unwalked, WalkFound, WalkMissed, round, rounds, turn, unplayed}
 
 -- what a hart knows of its unused walk
 abbrev pub note_of : Option Noted → Note
 note_of None = Unwalked
-note_of (Some noted) = if finds_page noted.walked then Found else Missing
+note_of (Some noted) = if finds_page noted.walked then WalkFound else WalkMissed
 
 -- a turn of a hart in a play leads to this history, and to the note of what the hart holds then; no other note changes
 pub record IsTurn (script : ScriptValue) (play : Play) (hart : ℕ) (history : List Entry) (walked : Option Noted) : Type 0 where

@@ -13,7 +13,7 @@ use Rattle.cove_host.proofs.PassedChecks.{Gives, gives, may_give}
 use Rattle.cove_host.proofs.CheckedLemmas.{each_passes}
 use Rattle.cove_tvm.specs.Called.{Called, IsReady}
 use Rattle.cove_host.specs.Checked.{all_checked}
-use Rattle.cove_model.specs.Checks.{AllFree, CpuNumber, Inside, IsBuilding, Live, NoCpuYet}
+use Rattle.cove_model.specs.Checks.{AllFree, CpuNumber, IsBuilding, Live, NoCpuYet, WithinMemory}
 use Rattle.cove_model.specs.HostCalls.{Rule, rule}
 use Rattle.cove_model.specs.LawfulStores.{AllowsLawful, IsLawful}
 use Rattle.cove_model.specs.Refusals.{Aligned, Check}
@@ -30,7 +30,7 @@ use Rattle.cove_tvm.specs.declared.machines.Tvm.{Tvm}
 
 -- the checks of the call
 abbrev pub adding_checks : State → (t v state : ℕ) → List Check
-adding_checks S t v state = Live S t ∷ IsBuilding S t ∷ CpuNumber v ∷ NoCpuYet S t v ∷ Aligned state ∷ Inside S state 1 ∷ AllFree S state 1 ∷ []
+adding_checks S t v state = Live S t ∷ IsBuilding S t ∷ CpuNumber v ∷ NoCpuYet S t v ∷ Aligned state ∷ WithinMemory S state 1 ∷ AllFree S state 1 ∷ []
 
 no_cpu : (x : Option Cpu) → is_some x ≡ false → x ≡ None
 no_cpu None e = refl

@@ -11,7 +11,7 @@ use Rattle.cove_base.specs.Tables.{Slot, InMiddle, IsLinkSlot, Names, entry_at, 
 use Rattle.cove_base.specs.declared.numbers.Role.TheVariants.{Root, Table, Data}
 use Rattle.cove_clear.proofs.Counting.{leaf_counts}
 use Rattle.cove_clear.specs.Clearing.{AreCounted, AreGathered, IsBeingCleared}
-use Rattle.cove_host.specs.Inside.{is_inside}
+use Rattle.cove_host.specs.HartsInside.{is_inside}
 use Rattle.cove_model.proofs.KeyedLemmas.{at_key}
 use Rattle.cove_model.proofs.LeafWords.{blocked_named, given_host, given_role, none_named, present_named}
 use Rattle.cove_model.proofs.Lists.{all_at}

@@ -17,7 +17,7 @@ use Rattle.cove_host.proofs.SharedPages.{in_run, unshared_words}
 use Rattle.cove_tvm.specs.Called.{Called, IsReady}
 use Rattle.cove_host.specs.Checked.{all_checked}
 use Rattle.cove_model.proofs.LawfulProofs.{convert_is_lawful}
-use Rattle.cove_model.specs.Checks.{AllHost, Inside, NoneShared}
+use Rattle.cove_model.specs.Checks.{AllHost, NoneShared, WithinMemory}
 use Rattle.cove_model.specs.HostCalls.{rule}
 use Rattle.cove_model.specs.LawfulStores.{AllowsLawful, IsLawful}
 use Rattle.cove_model.specs.Owners.{every, is_host}
@@ -30,7 +30,7 @@ use Rattle.cove_tvm.specs.Stands.{Stands}
 use Rattle.cove_tvm.specs.declared.ground.Ground.{Ground}
 
 abbrev pub convert_checks : State → (base n : ℕ) → List Check
-convert_checks S base n = Count n ∷ Aligned base ∷ Inside S base n ∷ AllHost S base n ∷ NoneShared S base n ∷ []
+convert_checks S base n = Count n ∷ Aligned base ∷ WithinMemory S base n ∷ AllHost S base n ∷ NoneShared S base n ∷ []
 
 -- what is known of a convert that all checks let pass
 record Passed (G : Ground) (S : State) (base n : ℕ) : Type 0 where

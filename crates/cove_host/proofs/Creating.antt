@@ -15,7 +15,7 @@ use Rattle.cove_host.proofs.PassedChecks.{inside_passes}
 use Rattle.cove_host.proofs.ReadyWords.{fences_within}
 use Rattle.cove_tvm.specs.Called.{Called, IsReady}
 use Rattle.cove_host.specs.Checked.{all_checked}
-use Rattle.cove_model.specs.Checks.{AllFree, Inside, RoomForTvm, RootAligned, StateApart}
+use Rattle.cove_model.specs.Checks.{AllFree, RoomForTvm, RootAligned, StateApart, WithinMemory}
 use Rattle.cove_model.specs.HostCalls.{Rule, rule}
 use Rattle.cove_model.specs.LawfulStores.{AllowsLawful, IsLawful}
 use Rattle.cove_model.specs.Owners.{every, is_free}
@@ -33,7 +33,7 @@ use Rattle.cove_tvm.specs.declared.machines.Tvm.{Tvm}
 -- the checks of the call
 abbrev pub creation_checks : MonitorState → (root state : ℕ) → List Check
 creation_checks S root state =
-    RoomForTvm S ∷ RootAligned root ∷ Aligned state ∷ Inside S root 4 ∷ Inside S state 1 ∷ StateApart root state ∷ AllFree S root 4 ∷ AllFree S state 1 ∷ []
+    RoomForTvm S ∷ RootAligned root ∷ Aligned state ∷ WithinMemory S root 4 ∷ WithinMemory S state 1 ∷ StateApart root state ∷ AllFree S root 4 ∷ AllFree S state 1 ∷ []
 
 -- where all pass, a TVM may be created
 pub may_create : (words : List ℕ) (G : Ground) (S : MonitorState) (root state : ℕ) → Stands words G S

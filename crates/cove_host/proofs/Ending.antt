@@ -17,7 +17,7 @@ use Rattle.cove_tvm.specs.Called.{Called, IsMet, IsReady}
 use Rattle.cove_host.specs.Checked.{all_checked}
 use Rattle.cove_host.proofs.PassedCalls.{AllPass, lawful_call}
 use Rattle.cove_host.specs.Ended.{HasEnded, IsEnding, MayEnd}
-use Rattle.cove_host.specs.Inside.{is_inside}
+use Rattle.cove_host.specs.HartsInside.{is_inside}
 use Rattle.cove_host.specs.Released.{HavePlaces, all_cpu_pages, release_stores}
 use Rattle.cove_model.specs.HostCalls.{rule}
 use Rattle.cove_model.specs.LawfulStores.{AllowsLawful, IsLawful, MakesLawful}

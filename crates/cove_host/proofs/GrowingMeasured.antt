@@ -13,7 +13,7 @@ use Rattle.cove_host.proofs.PassedChecks.{inside_passes}
 use Rattle.cove_host.specs.GuestRuns.{mapping_checks}
 use Rattle.cove_host.specs.MeasuredRuns.{MeasuresOf, frames_from}
 use Rattle.cove_model.proofs.Runs.{every_at}
-use Rattle.cove_model.specs.Checks.{AllFree, AllHost, Inside, IsBuilding, Live}
+use Rattle.cove_model.specs.Checks.{AllFree, AllHost, IsBuilding, Live, WithinMemory}
 use Rattle.cove_model.specs.HostCalls.{Rule, page_records, page_words_from, rule}
 use Rattle.cove_model.specs.Owners.{Free, Host, Owner, every, is_free, is_host, page_at, words_of}
 use Rattle.cove_model.specs.Refusals.{Aligned, Check, Count}
@@ -31,7 +31,7 @@ use Rattle.cove_tvm.specs.declared.machines.Tvm.{Tvm}
 
 abbrev pub measured_checks : State → (t src dst n gpa : ℕ) → List Check
 measured_checks S t src dst n gpa =
-    Live S t ∷ IsBuilding S t ∷ Count n ∷ Aligned src ∷ Aligned dst ∷ Aligned gpa ∷ Inside S src n ∷ Inside S dst n ∷ AllHost S src n ∷ AllFree S dst n
+    Live S t ∷ IsBuilding S t ∷ Count n ∷ Aligned src ∷ Aligned dst ∷ Aligned gpa ∷ WithinMemory S src n ∷ WithinMemory S dst n ∷ AllHost S src n ∷ AllFree S dst n
     ∷ mapping_checks false S t gpa n
 
 -- ---- what they tell

@@ -12,8 +12,8 @@ use Rattle.cove_host.proofs.PassedChecks.{inside_passes}
 use Rattle.cove_host.specs.Checked.{all_checked}
 use Rattle.cove_host.specs.GuestRuns.{mapping_checks}
 use Rattle.cove_host.specs.Mapped.{MapsRun, MayMapBy}
-use Rattle.cove_model.specs.Checks.{EnoughTables, Inside, IsRunnable, Live, Unmapped}
-use Rattle.cove_model.specs.GuestPages.{guests, missing_tables}
+use Rattle.cove_model.specs.Checks.{EnoughTables, IsRunnable, Live, Unmapped, WithinMemory}
+use Rattle.cove_model.specs.GuestPages.{missing_tables, page_run}
 use Rattle.cove_model.specs.HostCalls.{Rule}
 use Rattle.cove_model.specs.LawfulStores.{AllowsLawful, IsLawful, MakesLawful}
 use Rattle.cove_model.specs.Mappings.{mapping_of}
@@ -41,7 +41,7 @@ AllAre test S base n = plain (not (every test (base / 4096) n S.pages)) InvalidA
 
 abbrev pub run_checks : (test : Owner → Bool) (shared : Bool) → State → (t base n gpa : ℕ) → List Check
 run_checks test shared S t base n gpa =
-    Live S t ∷ IsRunnable S t ∷ Count n ∷ Aligned base ∷ Aligned gpa ∷ Inside S base n ∷ AllAre test S base n ∷ mapping_checks shared S t gpa n
+    Live S t ∷ IsRunnable S t ∷ Count n ∷ Aligned base ∷ Aligned gpa ∷ WithinMemory S base n ∷ AllAre test S base n ∷ mapping_checks shared S t gpa n
 
 -- ---- what they tell
 
@@ -57,7 +57,7 @@ Grows test words G S zero base n gpa = ⊥
 Grows test words G S (suc k) base n gpa = Grown test words G S k base n gpa
 
 module _ {words : List ℕ} {G : Ground} (ready : IsReady words G) (base n gpa : ℕ) (near : gpa / 4096 + n ≤ 2 ^ 29) (test : Owner → Bool) where
-  pub grows : (t : ℕ) (S : State) → Stands words G S → (Live S t).fails ≡ false → (Inside S base n).fails ≡ false → (AllAre test S base n).fails ≡ false
+  pub grows : (t : ℕ) (S : State) → Stands words G S → (Live S t).fails ≡ false → (WithinMemory S base n).fails ≡ false → (AllAre test S base n).fails ≡ false
       → (Unmapped S t gpa n).fails ≡ false → (EnoughTables S t gpa n).fails ≡ false → Grows test words G S t base n gpa
   grows t S stands lives inside owners unmapped enough = go t (both_live words G S t (live_at G.tvms t) (find_tvm S t) (stands.tvm t) lives) unmapped enough
     where
@@ -79,7 +79,7 @@ module _ {words : List ℕ} {G : Ground} (ready : IsReady words G) (base n gpa :
               inside = inside_passes base n stands inside;
               owners = not-false (every test (base / 4096) n S.pages) owners;
               near = near;
-              unmapped = ap (λ x. list_any (λ g. is_some (mapping_of (unwrap_or x (new_tvm (suc k))) g)) (guests gpa n)) (sym both.3) ∙ none;
+              unmapped = ap (λ x. list_any (λ g. is_some (mapping_of (unwrap_or x (new_tvm (suc k))) g)) (page_run gpa n)) (sym both.3) ∙ none;
               enough = omega (arith, missing, same);
             };
           }

@@ -17,7 +17,7 @@ use Rattle.cove_model.specs.Refusals.{Check, plain}
 use Rattle.cove_model.specs.States.{Seat, State, find_tvm}
 use Rattle.cove_model.specs.Tvms.{Backing, OwnPage, HostPage, Standing, Present, Blocked, Mapping, Tvm as ModelTvm, new_tvm}
 use Rattle.cove_region.proofs.StandingLemmas.{private-agrees, shared-agrees}
-use Rattle.cove_region.specs.GuestMaps.{GuestMap, covers, is_shared as is_row, kind_of}
+use Rattle.cove_region.specs.GuestMaps.{GuestMap, covers, has_shared as is_row, kind_of}
 use Rattle.cove_region.specs.Standing.{StandFor}
 use Rattle.cove_region.specs.declared.kinds.AreaKind.{AreaKind}
 use Rattle.cove_region.specs.declared.kinds.AreaKind.TheVariants.{Outside, Private, Shared}

@@ -8,7 +8,7 @@ use Rattle.cove_base.specs.declared.limits.TheConstants.{ENTRY_LIMIT}
 use Rattle.cove_base.specs.declared.numbers.HartId.{HartId}
 use Rattle.cove_base.specs.declared.statuses.Status.TheVariants.{Denied}
 use Rattle.cove_host.proofs.CheckedLemmas.{Answer}
-use Rattle.cove_host.specs.Inside.{IsFirstInside, is_inside, is_word_of}
+use Rattle.cove_host.specs.HartsInside.{IsFirstInside, is_inside, is_word_of}
 use Rattle.cove_model.specs.States.{Seat, State, harts_inside, is_in}
 use Rattle.cove_model.specs.WordsStand.{FencesWithin, SeatStands}
 use Rattle.cove_tvm.specs.Stands.{Stands}

@@ -6,7 +6,7 @@ use Rattle.cove_base.specs.declared.statuses.Reply.{Reply}
 use Rattle.cove_base.specs.declared.statuses.Status.{Status}
 use Rattle.cove_host.proofs.LifeTold.{both_live}
 use Rattle.cove_host.specs.Checked.{checked}
-use Rattle.cove_model.specs.Checks.{AllFree, Inside, Live}
+use Rattle.cove_model.specs.Checks.{AllFree, Live, WithinMemory}
 use Rattle.cove_model.specs.Owners.{every, is_free}
 use Rattle.cove_model.specs.Refusals.{plain}
 use Rattle.cove_model.specs.States.{State, find_tvm}
@@ -25,7 +25,7 @@ pub on_pass : (fails : Bool) (status : Status) (P : Type 0) (r : Result (Unit {0
 on_pass fails status P r is tells = subst (λ (answer : Result (Unit {0}) Reply). OnOk answer P) (sym is) (passing fails status P tells)
 
 -- the pages of a run within the memory are on the board
-pub inside_passes : {words : List ℕ} {G : Ground} {S : State} (base n : ℕ) → Stands words G S → (Inside S base n).fails ≡ false → base / 4096 + n ≤ G.pages
+pub inside_passes : {words : List ℕ} {G : Ground} {S : State} (base n : ℕ) → Stands words G S → (WithinMemory S base n).fails ≡ false → base / 4096 + n ≤ G.pages
 inside_passes {words} {G} {S} base n stands e =
     subst (λ pages. base / 4096 + n ≤ pages) stands.words_stand.stands.owners.page_count (ltb-false (length S.pages) (base / 4096 + n) e)
 
@@ -40,7 +40,7 @@ pub record Gives (words : List ℕ) (G : Ground) (S : State) (t base n : ℕ) : 
   pub inside : base / 4096 + n ≤ G.pages
   pub free : every is_free (base / 4096) n S.pages ≡ true
 
-pub gives : {words : List ℕ} {G : Ground} {S : State} (t base n : ℕ) → Stands words G S → (Live S t).fails ≡ false → (Inside S base n).fails ≡ false
+pub gives : {words : List ℕ} {G : Ground} {S : State} (t base n : ℕ) → Stands words G S → (Live S t).fails ≡ false → (WithinMemory S base n).fails ≡ false
     → (AllFree S base n).fails ≡ false → Gives words G S t base n
 gives {words} {G} {S} t base n stands live inside free =
     let both = both_live words G S t (live_at G.tvms t) (find_tvm S t) (stands.tvm t) live in

@@ -17,7 +17,7 @@ use Rattle.cove_host.specs.Checked.{all_checked}
 use Rattle.cove_model.proofs.LawfulProofs.{reclaim_is_lawful}
 use Rattle.cove_model.proofs.Runs.{every_at}
 use Rattle.cove_model.proofs.StandLemmas.{free_page}
-use Rattle.cove_model.specs.Checks.{AllFree, Inside}
+use Rattle.cove_model.specs.Checks.{AllFree, WithinMemory}
 use Rattle.cove_model.specs.HostCalls.{rule}
 use Rattle.cove_model.specs.LawfulStores.{AllowsLawful, IsFreeIn, IsLawful}
 use Rattle.cove_model.specs.Owners.{every, is_free, page_at}
@@ -30,7 +30,7 @@ use Rattle.cove_tvm.specs.Stands.{Stands}
 use Rattle.cove_tvm.specs.declared.ground.Ground.{Ground}
 
 abbrev pub reclaim_checks : State → (base n : ℕ) → List Check
-reclaim_checks S base n = Count n ∷ Aligned base ∷ Inside S base n ∷ AllFree S base n ∷ []
+reclaim_checks S base n = Count n ∷ Aligned base ∷ WithinMemory S base n ∷ AllFree S base n ∷ []
 
 module _ (words : List ℕ) (G : Ground) (hart base n : ℕ) (ready : IsReady words G)
     (told : AllPass (λ S. rule S hart (Reclaim base n)) words G) where

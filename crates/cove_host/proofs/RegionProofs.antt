@@ -17,7 +17,7 @@ use Rattle.cove_tvm.specs.Called.{Called}
 use Rattle.cove_host.specs.Checked.{all_checked}
 use Rattle.cove_host.specs.MoreRegions.{AddsRegion, HasRegion, has_all_regions, meets_region}
 use Rattle.cove_model.specs.Checks.{IsArea, IsBuilding, Live, NoOverlap, RoomForRegion}
-use Rattle.cove_model.specs.GuestPages.{meets}
+use Rattle.cove_model.specs.GuestPages.{meets_run}
 use Rattle.cove_model.specs.HostCalls.{Rule, rule}
 use Rattle.cove_model.specs.Refusals.{Aligned, Check}
 use Rattle.cove_model.specs.States.{State, find_tvm}
@@ -44,7 +44,7 @@ many_told guests model stands = ap length stands.regions ∙ length-map model.re
 
 module _ (words : List ℕ) (G : Ground) (S : State) (t : ℕ) where
   pub overlap_told : (first n : ℕ) (x : Option Tvm) (v : Option ModelTvm) → TvmStands G.pages G.harts words t S.seats G.files x v
-      → meets_region x first n ≡ list_any (meets first n) (unwrap_or v (new_tvm t)).regions
+      → meets_region x first n ≡ list_any (meets_run first n) (unwrap_or v (new_tvm t)).regions
   overlap_told first n None None stands = refl
   overlap_told first n None (Some model) stands = absurd stands
   overlap_told first n (Some tvm) None stands = absurd stands
@@ -91,7 +91,7 @@ record Passed (words : List ℕ) (G : Ground) (S : State) (t gpa len : ℕ) : Ty
   lasts : len % 4096 ≡ 0
   some : 0 < len
   within : gpa + len ≤ 2 ^ 41
-  apart : list_any (meets (gpa / 4096) (len / 4096)) model.regions ≡ false
+  apart : list_any (meets_run (gpa / 4096) (len / 4096)) model.regions ≡ false
   room : length model.regions < REGION_LIMIT
 
 passed : (words : List ℕ) (G : Ground) (S : State) (t gpa len : ℕ) → Stands words G S → Ok tt ≡ all_checked (region_checks S t gpa len)
@@ -109,7 +109,7 @@ passed words G S t gpa len stands e =
       lasts = whole len (pass 3);
       some = area.0;
       within = area.1;
-      apart = ap (λ v. list_any (meets (gpa / 4096) (len / 4096)) (unwrap_or v (new_tvm t)).regions) (sym both.3) ∙ pass 5;
+      apart = ap (λ v. list_any (meets_run (gpa / 4096) (len / 4096)) (unwrap_or v (new_tvm t)).regions) (sym both.3) ∙ pass 5;
       room =
           leb-false REGION_LIMIT (length both.1.regions)
           (ap (λ v. nat_le REGION_LIMIT (length (unwrap_or v (new_tvm t)).regions)) (sym both.3) ∙ pass 6);

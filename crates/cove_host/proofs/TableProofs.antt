@@ -11,7 +11,7 @@ use Rattle.cove_host.proofs.PassedCalls.{AllPass, passed_call, stands_written}
 use Rattle.cove_host.proofs.PassedChecks.{Gives, gives, may_give}
 use Rattle.cove_host.proofs.CheckedLemmas.{each_passes}
 use Rattle.cove_tvm.specs.Called.{Called, IsReady}
-use Rattle.cove_model.specs.Checks.{AllFree, Inside, Live}
+use Rattle.cove_model.specs.Checks.{AllFree, Live, WithinMemory}
 use Rattle.cove_model.specs.HostCalls.{Rule, rule}
 use Rattle.cove_model.specs.LawfulStores.{AllowsLawful, IsLawful}
 use Rattle.cove_model.specs.Refusals.{Aligned, Check, Count}
@@ -26,7 +26,7 @@ use Rattle.cove_tvm.specs.declared.machines.Tvm.{Tvm}
 
 -- the checks of the call
 abbrev pub tables_checks : State → (t base n : ℕ) → List Check
-tables_checks S t base n = Live S t ∷ Count n ∷ Aligned base ∷ Inside S base n ∷ AllFree S base n ∷ []
+tables_checks S t base n = Live S t ∷ Count n ∷ Aligned base ∷ WithinMemory S base n ∷ AllFree S base n ∷ []
 
 module _ (words : List ℕ) (G : Ground) (hart base n : ℕ) (ready : IsReady words G) where
   -- the rule of the call

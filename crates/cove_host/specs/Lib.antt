@@ -1,9 +1,9 @@
 pub mod Checked
 pub mod Ended
 pub mod Finalized
-pub mod Found
+pub mod FoundTvms
 pub mod GuestRuns
-pub mod Inside
+pub mod HartsInside
 pub mod Mapped
 pub mod MeasuredRuns
 pub mod MoreRegions

@@ -6,7 +6,7 @@ ghost use Rattle.std.specs.Prelude.{◌≡◌, ◌+◌, ◌/◌, ◌≤◌, ℕ,
 ghost use Rattle.cove_base.specs.Unchanged.{Unchanged};
 ghost use Rattle.cove_tvm.specs.Called.{IsReady};
 ghost use Rattle.cove_host.specs.Checked.{checked};
-ghost use Rattle.cove_model.specs.Checks.{AllFree, Inside, RoomForTvm, RootAligned, StateApart};
+ghost use Rattle.cove_model.specs.Checks.{AllFree, RoomForTvm, RootAligned, StateApart, WithinMemory};
 ghost use Rattle.cove_model.specs.Refusals.{Aligned, plain};
 ghost use Rattle.cove_model.specs.States.{State};
 ghost use Rattle.cove_tvm.specs.Stands.{Stands};
@@ -47,7 +47,7 @@ pub(crate) fn aligned(address: u64) -> Result<(), Reply>
 /// The pages are within the memory.
 pub(crate) fn inside(g: &Ground, base: u64, n: u64) -> Result<(), Reply>
     requires { n ≤ 16 }
-    ensures told { (words : List ℕ) (S : State) → Stands words g.now S → result ≡ checked (Inside S base n) }
+    ensures told { (words : List ℕ) (S : State) → Stands words g.now S → result ≡ checked (WithinMemory S base n) }
     ensures within { OnOk result (base / 4096 + n ≤ g.now.pages) }
 {
     check(base / 4096 + n > u64::from(g.pages), Status::InvalidAddress)

@@ -6,7 +6,7 @@ ghost use Rattle.cove_base.specs.declared.calls.HostCall.TheVariants.{Destroy};
 ghost use Rattle.cove_tvm.specs.Called.{Called, IsReady};
 ghost use Rattle.cove_host.specs.Checked.{all_checked, checked};
 ghost use Rattle.cove_host.specs.Ended.{HasEnded, MayEnd};
-ghost use Rattle.cove_host.specs.Inside.{IsFirstInside, is_inside, is_word_of};
+ghost use Rattle.cove_host.specs.HartsInside.{IsFirstInside, is_inside, is_word_of};
 ghost use Rattle.cove_model.specs.Checks.{NobodyInside};
 ghost use Rattle.cove_model.specs.HostCalls.{rule};
 ghost use Rattle.cove_model.specs.LawfulStores.{AllowsLawful};

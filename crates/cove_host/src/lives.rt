@@ -3,7 +3,7 @@
 ghost use Rattle.std.specs.Prelude.{◌≡◌, ◌<◌, ℕ, List, OnOk, IsSome};
 ghost use Rattle.cove_base.specs.declared.limits.TheConstants.{VCPU_LIMIT};
 ghost use Rattle.cove_host.specs.Checked.{checked};
-ghost use Rattle.cove_host.specs.Found.{has_cpu, has_no_cpu, runs};
+ghost use Rattle.cove_host.specs.FoundTvms.{has_cpu, has_no_cpu, runs};
 ghost use Rattle.cove_model.specs.Checks.{CpuNumber, HasSomeCpu, IsBuilding, IsRunnable, Live, NoCpuYet, PlaceAligned};
 ghost use Rattle.cove_model.specs.States.{State};
 ghost use Rattle.cove_tvm.specs.Stands.{Stands};

@@ -16,7 +16,7 @@ ghost use Rattle.cove_tvm.specs.LeafStands.{LeafStands};
 ghost use Rattle.cove_tvm.specs.Leaves.{LeavesEveryTvm, LeavesTvm};
 ghost use Rattle.cove_tvm.specs.NewTvms.{MayCreate, create_stores, with_new};
 ghost use Rattle.cove_tvm.specs.NewVcpus.{AddsCpu, IsNewCpu};
-ghost use Rattle.cove_tvm.specs.OneTvm.{KeepsMappings, LeavesOthers, StandsAt};
+ghost use Rattle.cove_tvm.specs.OneTvm.{KeepsMappings, LeavesOthers, OwnPartStands};
 ghost use Rattle.cove_tvm.specs.Slots.{slot_at};
 ghost use Rattle.cove_tvm.specs.Stands.{Stands};
 ghost use Rattle.cove_lives.specs.StateExamples.{on_vcpu};
@@ -109,9 +109,9 @@ pub fn worked_others()
         → LeavesOthers 1 words words G (record G.tvms { tvms = [] }) S S → ⊥ }
     ensures moved { (words : List ℕ) (G : Ground)
         → LeavesOthers 1 words words G G.tvms nine_free (record nine_free { seats = on_vcpu 0 }) → ⊥ }
-    ensures parts { (words : List ℕ) (G : Ground) (S : State) → Stands words G S → StandsAt 1 words G G.memory G.tvms S }
+    ensures parts { (words : List ℕ) (G : Ground) (S : State) → Stands words G S → OwnPartStands 1 words G G.memory G.tvms S }
     ensures kicked { (words : List ℕ) (G : Ground)
-        → 0 < G.harts → StandsAt 1 words (record G { kicked = 1 }) G.memory G.tvms nine_free → ⊥ }
+        → 0 < G.harts → OwnPartStands 1 words (record G { kicked = 1 }) G.memory G.tvms nine_free → ⊥ }
 {}
 
 /// A ground with a live TVM stands for no state without one.

@@ -1,13 +1,14 @@
 -- What the examples of tables show.
 use Rattle.std.proofs.Common.{◌≡◌, ℕ, ◌+◌, ◌^◌, ◌<◌, ◌&&◌, Bool, true, false, List, [], ◌∷◌, refl, arith, true≢false, ◌∙◌, ap, ◌==◌, get_or}
 use Rattle.std.proofs.lemmas.List.{get_or-replicate}
+use Rattle.cove_base.specs.Executions.{flag}
 use Rattle.cove_base.specs.TableWords.{blocked}
 use Rattle.cove_base.specs.Tables.{InMiddle, InRoot, IsLeaf, IsAbsent, IsPresent, IsBlocked, IsLinkSlot, Slot, entry_at, present}
 use Rattle.cove_map_examples.specs.Examples.{zero_words}
 use Rattle.cove_model.specs.LawfulStores.{IsRoot}
 use Rattle.cove_stage2.proofs.ZeroLemmas.{zeros-absent}
 use Rattle.cove_stage2.specs.Entries.{IsEntryWord, OfLeaf, OfTable}
-use Rattle.cove_stage2.specs.Lacked.{LacksRest, flag, tables_lacked}
+use Rattle.cove_stage2.specs.Lacked.{LacksRest, tables_lacked}
 use Rattle.cove_stage2.specs.LawfulTables.{AreGiven}
 use Rattle.cove_stage2.specs.MapStores.{pool_after, pool_left}
 

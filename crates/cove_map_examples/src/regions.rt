@@ -3,7 +3,7 @@
 ghost use Rattle.std.specs.Prelude.{◌≡◌, [], ◌∷◌, IsFalse, IsTrue, false, true};
 ghost use Rattle.cove_map_examples.specs.Examples.{every_other, shared_17, unshared};
 ghost use Rattle.cove_model.specs.Tvms.{new_tvm};
-ghost use Rattle.cove_region.specs.GuestMaps.{AreAll, AreMade, AreOfOneRegion, FormRows, FormTooManyRows, has_guest, holds, is_shared, kind_of, meets, pages_from, shared_with, shared_without};
+ghost use Rattle.cove_region.specs.GuestMaps.{AreAll, AreMade, AreOfOneRegion, FormRows, FormTooManyRows, has_guest, has_shared, has_shared_with, has_shared_without, holds, kind_of, meets, pages_from};
 ghost use Rattle.cove_region.specs.Rows.{AreDisjoint};
 ghost use Rattle.cove_region.specs.Standing.{StandFor};
 ghost use Rattle.cove_region.specs.declared.kinds.AreaKind.TheVariants.{Outside, Private, Shared};
@@ -36,13 +36,13 @@ pub fn worked_kinds()
 
 /// The shared pages form rows, of which there may be sixteen.
 pub fn worked_rows()
-    ensures one { FormRows (is_shared shared_17) 1 }
-    ensures none { FormRows (is_shared unshared) 0 }
-    ensures not_none { FormRows (is_shared shared_17) 0 → ⊥ }
-    ensures with { shared_with unshared (pages_from 17 1) 17 ≡ true }
-    ensures without { shared_without shared_17 (pages_from 17 1) 17 ≡ false }
-    ensures seventeen { FormTooManyRows (is_shared (every_other 17)) }
-    ensures sixteen { FormTooManyRows (is_shared (every_other 16)) → ⊥ }
+    ensures one { FormRows (has_shared shared_17) 1 }
+    ensures none { FormRows (has_shared unshared) 0 }
+    ensures not_none { FormRows (has_shared shared_17) 0 → ⊥ }
+    ensures with { has_shared_with unshared (pages_from 17 1) 17 ≡ true }
+    ensures without { has_shared_without shared_17 (pages_from 17 1) 17 ≡ false }
+    ensures seventeen { FormTooManyRows (has_shared (every_other 17)) }
+    ensures sixteen { FormTooManyRows (has_shared (every_other 16)) → ⊥ }
 {}
 
 /// No region stands for a TVM as it is created; two regions do not.

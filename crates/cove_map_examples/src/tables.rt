@@ -9,7 +9,7 @@ ghost use Rattle.cove_base.specs.declared.events.Walked.TheVariants.{Found, Miss
 ghost use Rattle.cove_map_examples.specs.Examples.{zero_words};
 ghost use Rattle.cove_model.specs.LawfulStores.{IsRoot};
 ghost use Rattle.cove_stage2.specs.Changes.{ChangesLeaf, ClearsPage, IsBlockedLeaf, IsPresentLeaf, KeepsLinks, NamesWay, unblocked};
-ghost use Rattle.cove_stage2.specs.Entries.{IsEntryWord, IsWithin, IsWithinEntry};
+ghost use Rattle.cove_stage2.specs.Entries.{IsBoundedEntry, IsBoundedLeaf, IsEntryWord};
 ghost use Rattle.cove_stage2.specs.Lacked.{LacksRest, tables_lacked};
 ghost use Rattle.cove_stage2.specs.LawfulTables.{AreGiven};
 ghost use Rattle.cove_stage2.specs.MapStores.{pool_left};
@@ -19,11 +19,11 @@ ghost use Rattle.cove_stage2.specs.declared.entries.TableEntry.TheVariants.{Next
 
 /// The limits of a leaf's and an entry's numbers, the words that a table may have, and which leaves are present or blocked.
 pub fn worked_entries()
-    ensures leaf { IsWithin (Present (record { 0 = 5 }) true) }
-    ensures page_too_large { IsWithin (Present (record { 0 = 2 ^ 16 }) true) → ⊥ }
-    ensures number_too_large { IsWithin (Blocked (record { 0 = 5 }) true (2 ^ 32)) → ⊥ }
-    ensures next { IsWithinEntry (Next (record { 0 = 5 })) }
-    ensures next_too_large { IsWithinEntry (Next (record { 0 = 2 ^ 16 })) → ⊥ }
+    ensures leaf { IsBoundedLeaf (Present (record { 0 = 5 }) true) }
+    ensures page_too_large { IsBoundedLeaf (Present (record { 0 = 2 ^ 16 }) true) → ⊥ }
+    ensures number_too_large { IsBoundedLeaf (Blocked (record { 0 = 5 }) true (2 ^ 32)) → ⊥ }
+    ensures next { IsBoundedEntry (Next (record { 0 = 5 })) }
+    ensures next_too_large { IsBoundedEntry (Next (record { 0 = 2 ^ 16 })) → ⊥ }
     ensures leaf_word { IsEntryWord (present 5 true) }
     ensures table_word { IsEntryWord (next_table 5) }
     ensures no_word { IsEntryWord 2 → ⊥ }

@@ -5,8 +5,8 @@ abbrev pub frame : (frames : List (List ℕ)) (page : ℕ) → List ℕ
 frame frames page = slice_index_or frames page []
 
 -- a frame of zeros
-unfoldable pub zeros : List ℕ
-zeros = replicate 512 0
+unfoldable pub zero_frame : List ℕ
+zero_frame = replicate 512 0
 
 -- the frames after a store of a word
 abbrev pub with_word : (frames : List (List ℕ)) (page word value : ℕ) → List (List ℕ)

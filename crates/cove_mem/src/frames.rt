@@ -1,5 +1,5 @@
 ghost use Rattle.std.specs.Prelude.{◌≡◌, ◌<◌, length, replicate, IfOk, slice_index, slice_set};
-ghost use Rattle.cove_mem.specs.Frames.{frame, zeros, with_word};
+ghost use Rattle.cove_mem.specs.Frames.{frame, zero_frame, with_word};
 
 use cove_base::{NoMemory, Page};
 use std::alloc::Global;
@@ -25,7 +25,7 @@ impl Model for Memory {
 impl Memory {
     /// As many frames, of zeros.
     pub fn new(alloc: Global, pages: u32) -> Result<Self, NoMemory>
-        ensures { IfOk result (λ memory. memory ≡ replicate pages zeros) }
+        ensures { IfOk result (λ memory. memory ≡ replicate pages zero_frame) }
     {
         Ok(Memory {
             frames: frames_of_zeros(alloc, pages)?,
@@ -53,7 +53,7 @@ impl Memory {
     /// Fills a page with zeros.
     pub fn zero(&mut self, page: Page)
         requires { page.0 < length self.old }
-        ensures { self.new ≡ slice_set self.old page.0 zeros }
+        ensures { self.new ≡ slice_set self.old page.0 zero_frame }
     {
         self.frames[page.0 as usize] = frame_of_zeros();
     }
@@ -78,7 +78,7 @@ impl Memory {
 }
 
 fn frames_of_zeros(alloc: Global, pages: u32) -> Result<Vec<[u64; WORDS]>, NoMemory>
-    ensures { IfOk result (λ frames. frames.items ≡ replicate pages zeros) }
+    ensures { IfOk result (λ frames. frames.items ≡ replicate pages zero_frame) }
 {
     let one = [frame_of_zeros()];
     let mut frames = Vec::with_capacity(alloc, pages as usize)?;
@@ -89,7 +89,7 @@ fn frames_of_zeros(alloc: Global, pages: u32) -> Result<Vec<[u64; WORDS]>, NoMem
 }
 
 fn frame_of_zeros() -> [u64; WORDS]
-    ensures { result ≡ zeros }
+    ensures { result ≡ zero_frame }
 {
     [0; WORDS]
 }

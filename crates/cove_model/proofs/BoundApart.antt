@@ -22,7 +22,7 @@ use Rattle.cove_model.specs.Histories.{after}
 use Rattle.cove_model.specs.HostCalls.{rule, started}
 use Rattle.cove_model.specs.Keyed.{alter, at, dropped}
 use Rattle.cove_model.specs.Mappings.{left_unbinding, rebound}
-use Rattle.cove_model.specs.Orderly.{AreBoundApart, AreDistinct, Place, cpus_of, place_in, place_of}
+use Rattle.cove_model.specs.Orderly.{AreBoundApart, AreDistinct, BoundFile, cpus_of, bound_file_in, bound_file_of}
 use Rattle.cove_model.specs.Owners.{Owner, has}
 use Rattle.cove_model.specs.States.{Seat, State, new_cpu}
 use Rattle.cove_model.specs.Steps.{after_event, done, line_ended}
@@ -31,15 +31,15 @@ use Rattle.cove_model.specs.Tvms.{Cpu, Tvm, new_tvm}
 -- ---- one TVM
 
 -- the vCPUs of a TVM are bound where they were or nowhere, but for one, whose file nobody had
-data Rebinding (S : State) (was now : ℕ → Option Place) : Type 0 where
-  KeepsPlaces : ((w : ℕ) (p : Place) → now w ≡ Some p → was w ≡ Some p) → Rebinding S was now
-  TakesPlace : (v : ℕ) (place : Place) → ((u w : ℕ) → place_of S u w ≡ Some place → ⊥)
-      → ((w : ℕ) (p : Place) → now w ≡ Some p → (was w ≡ Some p) ⊎ ((w ≡ v) × (p ≡ place))) → Rebinding S was now
+data Rebinding (S : State) (was now : ℕ → Option BoundFile) : Type 0 where
+  KeepsPlaces : ((w : ℕ) (p : BoundFile) → now w ≡ Some p → was w ≡ Some p) → Rebinding S was now
+  TakesPlace : (v : ℕ) (place : BoundFile) → ((u w : ℕ) → bound_file_of S u w ≡ Some place → ⊥)
+      → ((w : ℕ) (p : BoundFile) → now w ≡ Some p → (was w ≡ Some p) ⊎ ((w ≡ v) × (p ≡ place))) → Rebinding S was now
 
-same_places : (S : State) (was now : ℕ → Option Place) → ((w : ℕ) → now w ≡ was w) → Rebinding S was now
+same_places : (S : State) (was now : ℕ → Option BoundFile) → ((w : ℕ) → now w ≡ was w) → Rebinding S was now
 same_places S was now same = KeepsPlaces (λ w p e. sym (same w) ∙ e)
 
-left_place : (exit : Exit) (cpu : Cpu) → place_in (stopped_by exit cpu).binding ≡ place_in cpu.binding
+left_place : (exit : Exit) (cpu : Cpu) → bound_file_in (stopped_by exit cpu).binding ≡ bound_file_in cpu.binding
 left_place Exit.Fuel cpu = refl
 left_place Exit.Kicked cpu = refl
 left_place Exit.Wfi cpu = refl
@@ -50,26 +50,26 @@ left_place (Exit.Trap cause) cpu = refl
 added_place : (v : ℕ) (cs : List Cpu) (w : ℕ) → place_at (cs ++ new_cpu v ∷ []) w ≡ place_at cs w
 added_place v cs w = go (at (λ (c : Cpu). c.number) w cs) refl
   where
-    bare : (o : Option Cpu) → at (λ (c : Cpu). c.number) w (new_cpu v ∷ []) ≡ o → place_in (unwrap_or o (new_cpu w)).binding ≡ None
+    bare : (o : Option Cpu) → at (λ (c : Cpu). c.number) w (new_cpu v ∷ []) ≡ o → bound_file_in (unwrap_or o (new_cpu w)).binding ≡ None
     bare None e = refl
     bare (Some cpu) e = lone (eqb v w) cpu e
       where
-        lone : (b : Bool) (cpu : Cpu) → cond b (Some (new_cpu v)) None ≡ Some cpu → place_in cpu.binding ≡ None
-        lone true cpu q = ap (λ (c : Cpu). place_in c.binding) (sym (same_Some (new_cpu v) cpu q))
+        lone : (b : Bool) (cpu : Cpu) → cond b (Some (new_cpu v)) None ≡ Some cpu → bound_file_in cpu.binding ≡ None
+        lone true cpu q = ap (λ (c : Cpu). bound_file_in c.binding) (sym (same_Some (new_cpu v) cpu q))
         lone false cpu q = absurd (none-some cpu q)
 
-    go : (o : Option Cpu) → at (λ (c : Cpu). c.number) w cs ≡ o → place_at (cs ++ new_cpu v ∷ []) w ≡ place_in (unwrap_or o (new_cpu w)).binding
-    go None e = ap (λ o. place_in (unwrap_or o (new_cpu w)).binding) (at_beyond (λ (c : Cpu). c.number) w cs (new_cpu v ∷ []) e)
+    go : (o : Option Cpu) → at (λ (c : Cpu). c.number) w cs ≡ o → place_at (cs ++ new_cpu v ∷ []) w ≡ bound_file_in (unwrap_or o (new_cpu w)).binding
+    go None e = ap (λ o. bound_file_in (unwrap_or o (new_cpu w)).binding) (at_beyond (λ (c : Cpu). c.number) w cs (new_cpu v ∷ []) e)
         ∙ bare (at (λ (c : Cpu). c.number) w (new_cpu v ∷ [])) refl
-    go (Some cpu) e = ap (λ o. place_in (unwrap_or o (new_cpu w)).binding) (at_append (λ (c : Cpu). c.number) w cs (new_cpu v ∷ []) cpu e)
+    go (Some cpu) e = ap (λ o. bound_file_in (unwrap_or o (new_cpu w)).binding) (at_append (λ (c : Cpu). c.number) w cs (new_cpu v ∷ []) cpu e)
 
 -- one vCPU is changed
 binds_cpu : (S : State) (v : ℕ) (how : Cpu → Cpu) → ((cpu : Cpu) → (how cpu).number ≡ cpu.number) → (cs : List Cpu) → Binds S how
     → Rebinding S (place_at cs) (place_at (alter (λ c. c.number) v how cs))
 binds_cpu S v how numbers cs (StaysBound same) = same_places S (place_at cs) _ (λ w. place_altered how numbers same v w cs)
 binds_cpu S v how numbers cs (Unbinds gone) = KeepsPlaces (λ w p e. ⊎_elim
-    (λ is. absurd (none-some p (sym (ap place_in (unbound w is)) ∙ e)))
-    (λ ne. sym (ap (λ o. place_in (unwrap_or o (new_cpu w)).binding) (at_alter_other (λ (c : Cpu). c.number) w v how numbers ne cs)) ∙ e)
+    (λ is. absurd (none-some p (sym (ap bound_file_in (unbound w is)) ∙ e)))
+    (λ ne. sym (ap (λ o. bound_file_in (unwrap_or o (new_cpu w)).binding) (at_alter_other (λ (c : Cpu). c.number) w v how numbers ne cs)) ∙ e)
     (cases_eq w v))
   where
     none : (w : ℕ) (o : Option Cpu) → (unwrap_or (option_map how o) (new_cpu w)).binding ≡ None
@@ -81,14 +81,14 @@ binds_cpu S v how numbers cs (Unbinds gone) = KeepsPlaces (λ w p e. ⊎_elim
         ∙ ap (λ o. (unwrap_or o (new_cpu w)).binding) (at_alter_same (λ (c : Cpu). c.number) w how numbers cs) ∙ none w (at (λ (c : Cpu). c.number) w cs)
 binds_cpu S v how numbers cs (BindsAnew place new nobody) = TakesPlace v place nobody (λ w p e. ⊎_elim
     (λ is. taken w p is (at (λ (c : Cpu). c.number) w cs) refl (sym (here w is) ∙ e))
-    (λ ne. inl (sym (ap (λ o. place_in (unwrap_or o (new_cpu w)).binding) (at_alter_other (λ (c : Cpu). c.number) w v how numbers ne cs)) ∙ e))
+    (λ ne. inl (sym (ap (λ o. bound_file_in (unwrap_or o (new_cpu w)).binding) (at_alter_other (λ (c : Cpu). c.number) w v how numbers ne cs)) ∙ e))
     (cases_eq w v))
   where
-    here : (w : ℕ) → w ≡ v → place_at (alter (λ c. c.number) v how cs) w ≡ place_in (unwrap_or (option_map how (at (λ (c : Cpu). c.number) w cs)) (new_cpu w)).binding
+    here : (w : ℕ) → w ≡ v → place_at (alter (λ c. c.number) v how cs) w ≡ bound_file_in (unwrap_or (option_map how (at (λ (c : Cpu). c.number) w cs)) (new_cpu w)).binding
     here w is = ap (λ k. place_at (alter (λ (c : Cpu). c.number) k how cs) w) (sym is)
-        ∙ ap (λ o. place_in (unwrap_or o (new_cpu w)).binding) (at_alter_same (λ (c : Cpu). c.number) w how numbers cs)
+        ∙ ap (λ o. bound_file_in (unwrap_or o (new_cpu w)).binding) (at_alter_same (λ (c : Cpu). c.number) w how numbers cs)
 
-    taken : (w : ℕ) (p : Place) → w ≡ v → (o : Option Cpu) → at (λ (c : Cpu). c.number) w cs ≡ o → place_in (unwrap_or (option_map how o) (new_cpu w)).binding ≡ Some p
+    taken : (w : ℕ) (p : BoundFile) → w ≡ v → (o : Option Cpu) → at (λ (c : Cpu). c.number) w cs ≡ o → bound_file_in (unwrap_or (option_map how o) (new_cpu w)).binding ≡ Some p
         → (place_at cs w ≡ Some p) ⊎ ((w ≡ v) × (p ≡ place))
     taken w p is None q e = absurd (none-some p e)
     taken w p is (Some cpu) q e = inr (is, same_Some p place (sym e ∙ new cpu))
@@ -129,9 +129,9 @@ differ_cpus Found S h t tvm now found (Leaves v exit e spares) d = subst AreDist
 -- ---- the live TVMs
 
 data Rebindings (S : State) (xs ys : List Tvm) : Type 0 where
-  AllKeep : ((u w : ℕ) (p : Place) → place_among ys u w ≡ Some p → place_among xs u w ≡ Some p) → Rebindings S xs ys
-  OneTakes : (t v : ℕ) (place : Place) → ((u w : ℕ) → place_of S u w ≡ Some place → ⊥)
-      → ((u w : ℕ) (p : Place) → place_among ys u w ≡ Some p → (place_among xs u w ≡ Some p) ⊎ ((u ≡ t) × (w ≡ v) × (p ≡ place))) → Rebindings S xs ys
+  AllKeep : ((u w : ℕ) (p : BoundFile) → place_among ys u w ≡ Some p → place_among xs u w ≡ Some p) → Rebindings S xs ys
+  OneTakes : (t v : ℕ) (place : BoundFile) → ((u w : ℕ) → bound_file_of S u w ≡ Some place → ⊥)
+      → ((u w : ℕ) (p : BoundFile) → place_among ys u w ≡ Some p → (place_among xs u w ≡ Some p) ⊎ ((u ≡ t) × (w ≡ v) × (p ≡ place))) → Rebindings S xs ys
 
 -- the vCPUs of the TVM with a number differ in theirs
 abbrev Differ : List Tvm → (u : ℕ) → Type 0
@@ -197,7 +197,7 @@ comes_lost t xs u now found = inl (found_kept t u xs now found)
 places_come : (S : State) (xs ys : List Tvm) → Comes xs ys → Rebindings S xs ys
 places_come S xs ys comes = AllKeep (λ u w p e. go u w p (at (λ (k : Tvm). k.number) u ys) refl e)
   where
-    go : (u w : ℕ) (p : Place) (o : Option Tvm) → at (λ k. k.number) u ys ≡ o → place_at (unwrap_or o (new_tvm u)).cpus w ≡ Some p → place_among xs u w ≡ Some p
+    go : (u w : ℕ) (p : BoundFile) (o : Option Tvm) → at (λ k. k.number) u ys ≡ o → place_at (unwrap_or o (new_tvm u)).cpus w ≡ Some p → place_among xs u w ≡ Some p
     go u w p None q e = absurd (none-some p e)
     go u w p (Some now) q e = ⊎_elim
         (λ old. ap (λ o. place_at (unwrap_or o (new_tvm u)).cpus w) old ∙ e)
@@ -238,15 +238,15 @@ bound_tvms S T h change was = record {
   files = λ t u v w p one two. go t u v w p one two (binds_tvms ⊥ S T h change);
 }
   where
-    go : (t u v w : ℕ) (p : Place) → place_of T t v ≡ Some p → place_of T u w ≡ Some p → Rebindings S S.tvms T.tvms → (t ≡ u) × (v ≡ w)
+    go : (t u v w : ℕ) (p : BoundFile) → bound_file_of T t v ≡ Some p → bound_file_of T u w ≡ Some p → Rebindings S S.tvms T.tvms → (t ≡ u) × (v ≡ w)
     go t u v w p one two (AllKeep keep) = was.files t u v w p (keep t v p one) (keep u w p two)
     go t u v w p one two (OneTakes x y place nobody takes) = ⊎_elim
         (λ old. ⊎_elim
         (λ other. was.files t u v w p old other)
-        (λ new. absurd (nobody t v (old ∙ ap (λ (q : Place). Some q) new.2)))
+        (λ new. absurd (nobody t v (old ∙ ap (λ (q : BoundFile). Some q) new.2)))
         (takes u w p two))
         (λ new. ⊎_elim
-        (λ other. absurd (nobody u w (other ∙ ap (λ (q : Place). Some q) new.2)))
+        (λ other. absurd (nobody u w (other ∙ ap (λ (q : BoundFile). Some q) new.2)))
         (λ same. (new.0 ∙ sym same.0, new.1 ∙ sym same.1))
         (takes u w p two))
         (takes t v p one)

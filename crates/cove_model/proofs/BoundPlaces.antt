@@ -4,25 +4,25 @@ use Rattle.std.proofs.lemmas.Bool.{cases_eq}
 use Rattle.cove_model.proofs.Changes.{place_among, place_at}
 use Rattle.cove_model.proofs.KeyedLemmas.{at_alter_other, at_alter_same, at_map}
 use Rattle.cove_model.specs.Keyed.{alter, at}
-use Rattle.cove_model.specs.Orderly.{place_in}
+use Rattle.cove_model.specs.Orderly.{bound_file_in}
 use Rattle.cove_model.specs.States.{new_cpu, on_cpu}
 use Rattle.cove_model.specs.Tvms.{Cpu, Tvm, new_tvm}
 
-module _ (how : Cpu → Cpu) (numbers : (cpu : Cpu) → (how cpu).number ≡ cpu.number) (places : (cpu : Cpu) → place_in (how cpu).binding ≡ place_in cpu.binding) where
-  changed : (w : ℕ) (o : Option Cpu) → place_in (unwrap_or (option_map how o) (new_cpu w)).binding ≡ place_in (unwrap_or o (new_cpu w)).binding
+module _ (how : Cpu → Cpu) (numbers : (cpu : Cpu) → (how cpu).number ≡ cpu.number) (places : (cpu : Cpu) → bound_file_in (how cpu).binding ≡ bound_file_in cpu.binding) where
+  changed : (w : ℕ) (o : Option Cpu) → bound_file_in (unwrap_or (option_map how o) (new_cpu w)).binding ≡ bound_file_in (unwrap_or o (new_cpu w)).binding
   changed w None = refl
   changed w (Some cpu) = places cpu
 
   -- all vCPUs are changed, but not where they are bound
   pub place_mapped : (w : ℕ) (cs : List Cpu) → place_at (map how cs) w ≡ place_at cs w
-  place_mapped w cs = ap (λ o. place_in (unwrap_or o (new_cpu w)).binding) (at_map (λ (c : Cpu). c.number) how numbers w cs) ∙ changed w (at (λ (c : Cpu). c.number) w cs)
+  place_mapped w cs = ap (λ o. bound_file_in (unwrap_or o (new_cpu w)).binding) (at_map (λ (c : Cpu). c.number) how numbers w cs) ∙ changed w (at (λ (c : Cpu). c.number) w cs)
 
   -- one is
   pub place_altered : (v w : ℕ) (cs : List Cpu) → place_at (alter (λ c. c.number) v how cs) w ≡ place_at cs w
   place_altered v w cs = ⊎_elim
       (λ is. ap (λ k. place_at (alter (λ (c : Cpu). c.number) k how cs) w) (sym is)
-      ∙ ap (λ o. place_in (unwrap_or o (new_cpu w)).binding) (at_alter_same (λ (c : Cpu). c.number) w how numbers cs) ∙ changed w (at (λ (c : Cpu). c.number) w cs))
-      (λ ne. ap (λ o. place_in (unwrap_or o (new_cpu w)).binding) (at_alter_other (λ (c : Cpu). c.number) w v how numbers ne cs))
+      ∙ ap (λ o. bound_file_in (unwrap_or o (new_cpu w)).binding) (at_alter_same (λ (c : Cpu). c.number) w how numbers cs) ∙ changed w (at (λ (c : Cpu). c.number) w cs))
+      (λ ne. ap (λ o. bound_file_in (unwrap_or o (new_cpu w)).binding) (at_alter_other (λ (c : Cpu). c.number) w v how numbers ne cs))
       (cases_eq w v)
 
 -- one TVM is changed, but not where its vCPUs are bound
@@ -41,6 +41,6 @@ places_kept t how numbers xs each u w = ⊎_elim
     here : place_among (alter (λ k. k.number) t how xs) t w ≡ place_among xs t w
     here = ap (λ o. place_at (unwrap_or o (new_tvm t)).cpus w) (at_alter_same (λ (k : Tvm). k.number) t how numbers xs) ∙ go (at (λ (k : Tvm). k.number) t xs) refl
 
-pub places_altered : (t v : ℕ) (how : Cpu → Cpu) → ((cpu : Cpu) → (how cpu).number ≡ cpu.number) → ((cpu : Cpu) → place_in (how cpu).binding ≡ place_in cpu.binding)
+pub places_altered : (t v : ℕ) (how : Cpu → Cpu) → ((cpu : Cpu) → (how cpu).number ≡ cpu.number) → ((cpu : Cpu) → bound_file_in (how cpu).binding ≡ bound_file_in cpu.binding)
     → (xs : List Tvm) (u w : ℕ) → place_among (alter (λ k. k.number) t (on_cpu v how) xs) u w ≡ place_among xs u w
 places_altered t v how numbers places xs u w = places_kept t (on_cpu v how) (λ tvm. refl) xs (λ tvm x live. place_altered how numbers places v x tvm.cpus) u w

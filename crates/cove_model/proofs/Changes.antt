@@ -22,12 +22,12 @@ use Rattle.cove_model.proofs.Passing.{Passed}
 use Rattle.cove_model.proofs.SoundTvms.{AllSound, blocked_sound, fenced_sound, own_sound, shared_sound}
 use Rattle.cove_model.specs.Checks.{is_at, is_mapped_by}
 use Rattle.cove_model.specs.GuestCalls.{remembered}
-use Rattle.cove_model.specs.GuestPages.{guests, is_among}
+use Rattle.cove_model.specs.GuestPages.{is_among, page_run}
 use Rattle.cove_model.specs.HostCalls.{page_records, rule, started, page_words_from}
 use Rattle.cove_model.specs.Keyed.{alter, at, dropped}
 use Rattle.cove_model.specs.Mappings.{blocked_standing, fenced_standing, fenced_unbinding, is_fenced, left_unbinding, mapping_of, may_follow, own_mappings, rebound, restood, shared_mappings, unblocked_standing}
 use Rattle.cove_model.specs.Measured.{IsPage}
-use Rattle.cove_model.specs.Orderly.{AreDistinct, Place, guests_of, place_in, place_of}
+use Rattle.cove_model.specs.Orderly.{AreDistinct, BoundFile, guests_of, bound_file_in, bound_file_of}
 use Rattle.cove_model.specs.Owners.{Owner, every, has, is_free, is_host, page_at, without, words_of, zeros}
 use Rattle.cove_model.specs.Pages.{freed}
 use Rattle.cove_model.specs.Seated.{IsSeated, IsStill}
@@ -69,9 +69,9 @@ stopped_by exit cpu = record (left_by exit cpu) { latched = None; fuel = 0 }
 
 -- what a change of a vCPU does to its binding: it stays at its file, goes, or is at one that none has
 pub data Binds (S : State) (how : Cpu → Cpu) : Type 0 where
-  StaysBound : ((cpu : Cpu) → place_in (how cpu).binding ≡ place_in cpu.binding) → Binds S how
+  StaysBound : ((cpu : Cpu) → bound_file_in (how cpu).binding ≡ bound_file_in cpu.binding) → Binds S how
   Unbinds : ((cpu : Cpu) → (how cpu).binding ≡ None) → Binds S how
-  BindsAnew : (place : Place) → ((cpu : Cpu) → place_in (how cpu).binding ≡ Some place) → ((u w : ℕ) → place_of S u w ≡ Some place → ⊥) → Binds S how
+  BindsAnew : (place : BoundFile) → ((cpu : Cpu) → bound_file_in (how cpu).binding ≡ Some place) → ((u w : ℕ) → bound_file_of S u w ≡ Some place → ⊥) → Binds S how
 
 -- to its vCPUs: they stay, or one is added, all begin, one changes, unbindings change, or a hart leaves one
 pub data Cpus (Found : Type 0) (S : State) (h t : ℕ) (tvm now : Tvm) : Type 0 where
@@ -98,10 +98,10 @@ pub data OneTvm (Calm : Type 0) (S : State) (pages : List Owner) (h : ℕ) (xs y
       → ((tvm : Tvm) → TvmChange Calm (at (λ k. k.number) t xs ≡ Some tvm) S pages h t tvm (how tvm)) → OneTvm Calm S pages h xs ys
 
 -- where a vCPU is bound, by the vCPUs of a TVM and by the live TVMs
-abbrev pub place_at : List Cpu → (v : ℕ) → Option Place
-place_at cpus v = place_in (unwrap_or (at (λ c. c.number) v cpus) (new_cpu v)).binding
+abbrev pub place_at : List Cpu → (v : ℕ) → Option BoundFile
+place_at cpus v = bound_file_in (unwrap_or (at (λ c. c.number) v cpus) (new_cpu v)).binding
 
-abbrev pub place_among : List Tvm → (t v : ℕ) → Option Place
+abbrev pub place_among : List Tvm → (t v : ℕ) → Option BoundFile
 place_among tvms t v = place_at (unwrap_or (at (λ k. k.number) t tvms) (new_tvm t)).cpus v
 
 -- one is changed, perhaps twice, then with its vCPUs bound as they were; one is new, or one is destroyed
@@ -154,15 +154,15 @@ pages_recorded gpa (words ∷ rest) = (tt, pages_recorded (gpa + 4096) rest)
 
 -- new mappings of guest pages that had none
 mapped_apart : (S : State) (t : ℕ) (tvm : Tvm) (gpa n : ℕ) (new : List Mapping) → find_tvm S t ≡ Some tvm
-    → list_any (λ g. is_some (mapping_of (tvm_at S t) g)) (guests gpa n) ≡ false → pages_of new ≡ guests gpa n
+    → list_any (λ g. is_some (mapping_of (tvm_at S t) g)) (page_run gpa n) ≡ false → pages_of new ≡ page_run gpa n
     → AreDistinct (guests_of tvm) → AreDistinct (pages_of (tvm.mappings ++ new))
 mapped_apart S t tvm gpa n new live unmapped pages d =
     subst AreDistinct (sym (map-append (λ (m : Mapping). m.guest) tvm.mappings new ∙ ap (λ ks. guests_of tvm ++ ks) pages))
-    (distinct_append (guests_of tvm) (guests gpa n) d (distinct_range (gpa / 4096) n)
+    (distinct_append (guests_of tvm) (page_run gpa n) d (distinct_range (gpa / 4096) n)
     (λ k e. none_has (λ (m : Mapping). m.guest) k tvm.mappings
     (is_none_of (mapping_of tvm k)
     (ap (λ (o : Option Tvm). is_some (mapping_of (unwrap_or o (new_tvm t)) k)) (sym live)
-    ∙ none_any (λ g. is_some (mapping_of (tvm_at S t) g)) (guests gpa n) k unmapped e))))
+    ∙ none_any (λ g. is_some (mapping_of (tvm_at S t) g)) (page_run gpa n) k unmapped e))))
   where
     is_none_of : (o : Option Mapping) → is_some o ≡ false → o ≡ None
     is_none_of None q = refl
@@ -191,7 +191,7 @@ fenced_run S t tvm gpa n live ok sound x g m found follows = ⊎_elim
 record MapsRun (S : State) (test : Owner → Bool) (t base n gpa : ℕ) : Type 0 where
   inside : is_outside base n (length S.pages) ≡ false
   held : not (every test (base / 4096) n S.pages) ≡ false
-  unmapped : list_any (λ g. is_some (mapping_of (tvm_at S t) g)) (guests gpa n) ≡ false
+  unmapped : list_any (λ g. is_some (mapping_of (tvm_at S t) g)) (page_run gpa n) ≡ false
 
 zero_passed : (S : State) (h t base n gpa : ℕ) → Passed (rule S h (Zero t base n gpa)).checks → MapsRun S is_free t base n gpa
 zero_passed S h t base n gpa ok = let run = ok.1.1.1.1.1 in record { inside = run.0; held = run.1.0; unmapped = run.1.1.1.0 }
@@ -206,7 +206,7 @@ record MeasuresRun (S : State) (t src dst n gpa : ℕ) : Type 0 where
   source : not (every is_host (src / 4096) n S.pages) ≡ false
   inside : is_outside dst n (length S.pages) ≡ false
   free : not (every is_free (dst / 4096) n S.pages) ≡ false
-  unmapped : list_any (λ g. is_some (mapping_of (tvm_at S t) g)) (guests gpa n) ≡ false
+  unmapped : list_any (λ g. is_some (mapping_of (tvm_at S t) g)) (page_run gpa n) ≡ false
 
 measured_passed : (S : State) (h t src dst n gpa : ℕ) → Passed (rule S h (Measured t src dst n gpa)).checks → MeasuresRun S t src dst n gpa
 measured_passed S h t src dst n gpa ok =
@@ -215,27 +215,27 @@ measured_passed S h t src dst n gpa ok =
     record { building = ok.1.0; source_inside = runs.0; inside = runs.1.0; source = runs.1.1.0; free = runs.1.1.1.0; unmapped = maps.1.0 }
 
 -- a binding whose unbinding changed is at its file
-pub rebound_place : (how : Unbinding → Unbinding) (cpu : Cpu) → place_in (rebound how cpu).binding ≡ place_in cpu.binding
+pub rebound_place : (how : Unbinding → Unbinding) (cpu : Cpu) → bound_file_in (rebound how cpu).binding ≡ bound_file_in cpu.binding
 rebound_place how cpu = go cpu.binding
   where
-    go : (o : Option Binding) → place_in (option_map {T = Binding} (λ b. record b { unbinding = how b.unbinding }) o) ≡ place_in o
+    go : (o : Option Binding) → bound_file_in (option_map {T = Binding} (λ b. record b { unbinding = how b.unbinding }) o) ≡ bound_file_in o
     go None = refl
     go (Some b) = refl
 
 -- no vCPU is bound to a file that is not taken
 not_taken : (S : State) (hart file : ℕ) → list_any (λ (tvm : Tvm). list_any (is_at hart file) tvm.cpus) S.tvms ≡ false
-    → (u w : ℕ) → place_of S u w ≡ Some (record { hart = hart; file = file }) → ⊥
+    → (u w : ℕ) → bound_file_of S u w ≡ Some (record { hart = hart; file = file }) → ⊥
 not_taken S hart file none u w = go (find_tvm S u) refl
   where
-    place : Place
+    place : BoundFile
     place = record { hart = hart; file = file }
 
-    taken : (o : Option Binding) → place_in o ≡ Some place → option_map_or (λ b. eqb b.hart hart && eqb b.file file) o false ≡ true
+    taken : (o : Option Binding) → bound_file_in o ≡ Some place → option_map_or (λ b. eqb b.hart hart && eqb b.file file) o false ≡ true
     taken None e = absurd (none-some place e)
     taken (Some b) e = let q = same_Some (record { hart = b.hart; file = b.file }) place e in
-        and_from (eqb b.hart hart) (eqb b.file file) (eq-eqb b.hart hart (ap (λ (p : Place). p.hart) q)) (eq-eqb b.file file (ap (λ (p : Place). p.file) q))
+        and_from (eqb b.hart hart) (eqb b.file file) (eq-eqb b.hart hart (ap (λ (p : BoundFile). p.hart) q)) (eq-eqb b.file file (ap (λ (p : BoundFile). p.file) q))
 
-    of : (tvm : Tvm) → find_tvm S u ≡ Some tvm → (c : Option Cpu) → find_cpu tvm w ≡ c → place_in (unwrap_or c (new_cpu w)).binding ≡ Some place → ⊥
+    of : (tvm : Tvm) → find_tvm S u ≡ Some tvm → (c : Option Cpu) → find_cpu tvm w ≡ c → bound_file_in (unwrap_or c (new_cpu w)).binding ≡ Some place → ⊥
     of tvm live None there e = none-some place e
     of tvm live (Some cpu) there e = true≢false (sym (taken cpu.binding e)
         ∙ any_at (is_at hart file) (λ (c : Cpu). c.number) w tvm.cpus cpu there (any_at (λ (k : Tvm). list_any (is_at hart file) k.cpus) (λ (k : Tvm). k.number) u S.tvms tvm live none))

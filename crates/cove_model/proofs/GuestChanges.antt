@@ -26,7 +26,7 @@ use Rattle.cove_model.specs.GuestPages.{is_among}
 use Rattle.cove_model.specs.HostCalls.{Rule}
 use Rattle.cove_model.specs.Mappings.{blocked_standing, left_standing, mapping_of, restand}
 use Rattle.cove_model.specs.Offers.{cpu_of}
-use Rattle.cove_model.specs.Orderly.{place_in}
+use Rattle.cove_model.specs.Orderly.{bound_file_in}
 use Rattle.cove_model.specs.Owners.{Owner, has, page_at, without, word_stored}
 use Rattle.cove_model.specs.Sound.{IsHeldWithin}
 use Rattle.cove_model.specs.States.{Seat, State, find_tvm, harts_inside, on_cpu, on_tvm, page_of, seated, tvm_at, word_place}
@@ -93,8 +93,8 @@ goes_on Calm S M h seat how sits numbers bound mid = record {
       (λ u w. places_altered seat.tvm seat.cpu how numbers places M.tvms u w);
 }
   where
-    places : (cpu : Cpu) → place_in (how cpu).binding ≡ place_in cpu.binding
-    places cpu = ap place_in (bound cpu)
+    places : (cpu : Cpu) → bound_file_in (how cpu).binding ≡ bound_file_in cpu.binding
+    places cpu = ap bound_file_in (bound cpu)
 
     wrote : (p : ℕ) → Wrote S M p → Wrote S (on_seat seat how M) p
     wrote p (Left u e) = Left u e

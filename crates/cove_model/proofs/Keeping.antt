@@ -7,7 +7,7 @@ use Rattle.cove_model.proofs.Members.{has_without}
 use Rattle.cove_model.specs.Owners.{has}
 use Rattle.cove_model.proofs.KeyedLemmas.{at_alter_other, at_alter_same, at_append, at_dropped, at_map}
 use Rattle.cove_model.specs.GuestCalls.{remembered, reworded}
-use Rattle.cove_model.specs.GuestPages.{guests, is_among}
+use Rattle.cove_model.specs.GuestPages.{is_among, page_run}
 use Rattle.cove_model.specs.Keyed.{at, alter, dropped}
 use Rattle.cove_model.specs.Mappings.{blocked_standing, fenced_standing, is_fenced, is_own, left_standing, mapping_of, may_follow, page_under, restand, restood}
 use Rattle.cove_model.specs.Sound.{IsHeldWithin}
@@ -144,7 +144,7 @@ range_all test a (suc n) g e low high = go (cases_eq a g) (λ l u. range_all tes
     go (inl is) more = ap test (sym is) ∙ (and_parts (test a) (list_all test (range_with_len (a + 1) n)) e).0
     go (inr ne) more = more (omega arith) (omega arith)
 
-pub among_all : (test : ℕ → Bool) (gpa n g : ℕ) → list_all test (guests gpa n) ≡ true → is_among gpa n g ≡ true → test g ≡ true
+pub among_all : (test : ℕ → Bool) (gpa n g : ℕ) → list_all test (page_run gpa n) ≡ true → is_among gpa n g ≡ true → test g ≡ true
 among_all test gpa n g e among =
     let parts = and_parts (nat_le (gpa / 4096) g) (nat_lt g (gpa / 4096 + n)) among in
     range_all test (gpa / 4096) n g e (leb-true (gpa / 4096) g parts.0) (ltb-true g (gpa / 4096 + n) parts.1)

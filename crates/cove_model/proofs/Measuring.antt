@@ -16,7 +16,7 @@ use Rattle.cove_model.proofs.GuestChanges.{change_done}
 use Rattle.cove_model.proofs.Distinct.{distinct_filter, keys_dropped, pages_of, pages_remembered, pages_restood}
 use Rattle.cove_model.proofs.KeyedLemmas.{at_alter_other, at_alter_same, at_dropped}
 use Rattle.cove_model.proofs.Lists.{all_append}
-use Rattle.cove_model.specs.GuestPages.{guests}
+use Rattle.cove_model.specs.GuestPages.{page_run}
 use Rattle.cove_model.specs.Histories.{after}
 use Rattle.cove_model.specs.Keyed.{alter, at, dropped}
 use Rattle.cove_model.specs.Orderly.{AreDistinct, guests_of}

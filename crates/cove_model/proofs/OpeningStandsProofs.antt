@@ -5,12 +5,12 @@ use Rattle.std.proofs.lemmas.Bool.{le-ltb}
 use Rattle.cove_base.specs.Places.{epoch_word, answered_word, table_word, tvm_word, hart_word, all_words}
 use Rattle.cove_model.specs.States.{opening}
 use Rattle.cove_model.specs.WordsStand.{PageStands, epoch_in, answered_in, maps_of}
-use Rattle.cove_model.specs.WordLaws.{OpeningStands}
+use Rattle.cove_model.specs.WordLaws.{OpeningWordsStand}
 use Rattle.cove_model.proofs.Lists.{replicate_zero}
 use Rattle.cove_model.proofs.Runs.{opening_page, opening_length}
 use Rattle.cove_model.proofs.ToldProofs.{filter_none}
 
-pub opening_stands : OpeningStands
+pub opening_stands : OpeningWordsStand
 opening_stands script =
     let n = all_words script.pages script.harts in
     let words : List ℕ = replicate n 0 in

@@ -21,14 +21,14 @@ use Rattle.cove_model.proofs.Running.{still_since}
 use Rattle.cove_model.specs.Cached.{IsCached, IsReached, ReachesWhere, WasFound}
 use Rattle.cove_model.specs.Histories.{Legal, after}
 use Rattle.cove_model.specs.Offers.{Offer, Nothing, Behind, Single, Touch, cpu_of, is_found, may_succeed, offer, sought}
-use Rattle.cove_model.specs.Played.{Note, Unwalked, Found, Missing, Play, ended_event, ending, enough, entered, entry_by, entry_turn, noted, played, played_out, round, rounds, sought_turn, turn, unplayed, walked, walks_first}
+use Rattle.cove_model.specs.Played.{Note, Unwalked, WalkFound, WalkMissed, Play, ended_event, ending, enough, entered, entry_by, entry_turn, noted, played, played_out, round, rounds, sought_turn, turn, unplayed, walked, walks_first}
 use Rattle.cove_model.specs.Steps.{Allows, Takes, done}
 use Rattle.cove_model.specs.Translations.{holds_target, tlb}
 
 -- a walk that found its target did so since the hart's last entry, and the hart looks for it
 abbrev NoteFits : ScriptValue → List Entry → (h : ℕ) → Note → Type 0
 NoteFits script H h note =
-    note ≡ Found → (t : Target) → aimed_at script (after script H) h ((after script H).seats h) ≡ Some t → WasFound script H h t
+    note ≡ WalkFound → (t : Target) → aimed_at script (after script H) h ((after script H).seats h) ≡ Some t → WasFound script H h t
 
 pub record Fitting (script : ScriptValue) (play : Play) : Type 0 where
   pub legal : Legal script play.history
@@ -110,20 +110,20 @@ module _ (script : ScriptValue) (limits : Limits script) where
 
   -- ---- so does a walk
 
-  found_true : (b : Bool) → cond b Found Missing ≡ Found → b ≡ true
+  found_true : (b : Bool) → cond b WalkFound WalkMissed ≡ WalkFound → b ≡ true
   found_true true e = refl
   found_true false e = cc
 
   walk_notes : (play : Play) (h : ℕ) (target : Target) → Fitting script play → sought script (after script play.history) h ≡ Some target → (k : ℕ) → k < script.harts → (k ≡ h) ⊎ (k ≡ h → ⊥)
-      → NoteFits script play.history k (noted h (cond (is_found (after script play.history) h target) Found Missing) play.notes k)
+      → NoteFits script play.history k (noted h (cond (is_found (after script play.history) h target) WalkFound WalkMissed) play.notes k)
   walk_notes play h target fitting seeks k lt (inl e) = λ found t aims.
       let S = after script play.history in
-      let note = sym (noted_same h k (cond (is_found S h target) Found Missing) play.notes e) ∙ found in
+      let note = sym (noted_same h k (cond (is_found S h target) WalkFound WalkMissed) play.notes e) ∙ found in
       let mine : aimed_at script S k (S.seats k) ≡ Some target = subst (λ j. aimed_at script S j (S.seats j) ≡ Some target) (sym e) (sought_aims script S h target seeks) in
       let same : target ≡ t = same_Some target t (sym mine ∙ aims) in
       was_now script play.history k t (ap (is_found S k) (sym same) ∙ ap (λ j. is_found S j target) e ∙ found_true (is_found S h target) note)
   walk_notes play h target fitting seeks k lt (inr ne) = λ found t aims.
-      fitting.notes_fit k lt (sym (noted_other h k (cond (is_found (after script play.history) h target) Found Missing) play.notes ne) ∙ found) t aims
+      fitting.notes_fit k lt (sym (noted_other h k (cond (is_found (after script play.history) h target) WalkFound WalkMissed) play.notes ne) ∙ found) t aims
 
   fitting_walked : (play : Play) (h : ℕ) (target : Target) → Fitting script play → sought script (after script play.history) h ≡ Some target → Fitting script (walked play h (is_found (after script play.history) h target))
   fitting_walked play h target fitting seeks = record {
@@ -175,9 +175,9 @@ module _ (script : ScriptValue) (limits : Limits script) where
         go true e note n f q = e
         go false e Unwalked n true q = (e, was_now script play.history h target q)
         go false e Unwalked n false q = (e, q)
-        go false e Found n f q = (e, fitting.notes_fit h lt n target aims)
-        go false e Missing n true q = (e, was_now script play.history h target q)
-        go false e Missing n false q = (e, q)
+        go false e WalkFound n f q = (e, fitting.notes_fit h lt n target aims)
+        go false e WalkMissed n true q = (e, was_now script play.history h target q)
+        go false e WalkMissed n false q = (e, q)
 
     touch : (target : Target) (success : How → Event) (fault : Event) → offer script S h ≡ Touch target success fault → Shows script S h (S.seats h) (Touch target success fault)
         → (o : Option How) → Ends target o → Fitting script (entered play h (ended_event success fault o))

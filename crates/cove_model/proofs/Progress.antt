@@ -19,21 +19,21 @@ use Rattle.cove_model.proofs.Playing.{noted_other, noted_same, rounds_stay, turn
 use Rattle.cove_model.specs.Deeds.{Deed, Tires, Fetches, Executes, Loads, Stores, Asks, Waits, Traps, deed_of}
 use Rattle.cove_model.specs.Histories.{after}
 use Rattle.cove_model.specs.Offers.{Offer, Nothing, Behind, Single, Touch, access_target, cpu_of, deed_offer, fault_exit, fetch_target, first_behind, guest_touch, is_behind, is_earlier, is_found, kicked_offer, line_offer, offer, outside_offer, sought, unkicked_offer, unless_behind}
-use Rattle.cove_model.specs.Played.{IsEnded, Note, Unwalked, Found, Missing, Play, ended_event, ending, enough, entered, entry_by, entry_turn, noted, played, round, rounds, sought_turn, turn, unplayed, walked, walks_first}
+use Rattle.cove_model.specs.Played.{IsEnded, Note, Unwalked, WalkFound, WalkMissed, Play, ended_event, ending, enough, entered, entry_by, entry_turn, noted, played, round, rounds, sought_turn, turn, unplayed, walked, walks_first}
 use Rattle.cove_model.specs.Translations.{holds_target, tlb}
 
 -- ---- the measure: entries count twice, and a walk that isn't used yet once
 
 unfoldable pub weight : Note → ℕ
 weight Unwalked = 0
-weight Found = 1
-weight Missing = 1
+weight WalkFound = 1
+weight WalkMissed = 1
 
 weight_le : (note : Note) → weight note ≤ 1
 unfolding weight
 weight_le Unwalked = omega arith
-weight_le Found = omega arith
-weight_le Missing = omega arith
+weight_le WalkFound = omega arith
+weight_le WalkMissed = omega arith
 
 unfoldable pub work : ScriptValue → Play → ℕ
 work script play = 2 * length play.history + sum_below (λ k. weight (play.notes k)) script.harts
@@ -60,7 +60,7 @@ entered_work script play h event lt =
     let here = weight_le (play.notes h) in
     omega arith
 
-weight_found : (b : Bool) → weight (cond b Found Missing) ≡ 1
+weight_found : (b : Bool) → weight (cond b WalkFound WalkMissed) ≡ 1
 unfolding weight
 weight_found true = refl
 weight_found false = refl
@@ -69,7 +69,7 @@ weight_found false = refl
 walked_work : (script : ScriptValue) (play : Play) (h : ℕ) (b : Bool) → h < script.harts → play.notes h ≡ Unwalked → work script play < work script (walked play h b)
 unfolding work weight
 walked_work script play h b lt none =
-    let notes = notes_changed play.notes (cond b Found Missing) h script.harts lt in
+    let notes = notes_changed play.notes (cond b WalkFound WalkMissed) h script.harts lt in
     let here = ap weight none in
     let there = weight_found b in
     omega arith
@@ -109,8 +109,8 @@ module _ (script : ScriptValue) (play : Play) (h : ℕ) where
   first_unwalked : (holds : Bool) (note : Note) → walks_first holds note ≡ true → note ≡ Unwalked
   first_unwalked true note e = cc
   first_unwalked false Unwalked e = refl
-  first_unwalked false Found e = cc
-  first_unwalked false Missing e = cc
+  first_unwalked false WalkFound e = cc
+  first_unwalked false WalkMissed e = cc
 
   -- a turn of a hart that can go on is work, and of one that cannot none, or a walk
   sought_work : (o : Offer) (t : Option Target) → h < script.harts → Moves o → work script play < work script (sought_turn script play S h o t)

@@ -13,7 +13,7 @@ use Rattle.cove_model.proofs.LeafWords.{blocked_none, given_number, none_named, 
 use Rattle.cove_model.proofs.Lists.{replicate_zero}
 use Rattle.cove_model.proofs.OwnedStores.{one_owner}
 use Rattle.cove_model.specs.LawfulStores.{AreOwned, HasEntered, IsBehindLeaf, IsInside, IsLawful, Counts, Converts, Frees, Gives, TakesBack, Removes, ChangesTable, Answers, Begins, FencesTvm, Enters, Leaves, IsLeft, IsTableOf, TableChange, Links, Maps, Blocks, Unblocks, Unmaps, Rewrites}
-use Rattle.cove_model.specs.TableExamples.{entered, fetching, guest, rooted}
+use Rattle.cove_model.specs.TableExamples.{entered_words, fetching, guest, rooted}
 use Rattle.cove_model.specs.TableLaw.{EntersWithin, IsGuestLive, MayReach}
 use Rattle.cove_model.specs.WordsStand.{number_in}
 
@@ -28,13 +28,13 @@ rooted_zero place past = get_or-append_right first_words (replicate (all_words 8
 size : length rooted ≡ 4125
 size = refl
 
-entered_other : (place : ℕ) → place ≢ 4123 → get_or entered place 0 ≡ get_or rooted place 0
+entered_other : (place : ℕ) → place ≢ 4123 → get_or entered_words place 0 ≡ get_or rooted place 0
 entered_other place ne = get_or-set_other rooted 4123 place (2 ^ 32) 0 ne
 
-entered_here : get_or entered (hart_word 8 1 0) 0 ≡ 2 ^ 32
+entered_here : get_or entered_words (hart_word 8 1 0) 0 ≡ 2 ^ 32
 entered_here = get_or-set_same rooted 4123 (2 ^ 32) 0 (omega (arith, size))
 
-entered_zero : (place : ℕ) → 8 ≤ place → place ≢ 4123 → get_or entered place 0 ≡ 0
+entered_zero : (place : ℕ) → 8 ≤ place → place ≢ 4123 → get_or entered_words place 0 ≡ 0
 entered_zero place past ne = entered_other place ne ∙ rooted_zero place past
 
 -- ---- empty tables
@@ -82,9 +82,9 @@ least_word (suc (suc (suc (suc p)))) low e = absurd (omega arith)
 pub rooted_owned : AreOwned 8 rooted 1 4
 rooted_owned = empty_owned rooted (λ place past low. rooted_zero place past) refl refl refl refl least_word
 
-pub entered_owned : AreOwned 8 entered 1 4
+pub entered_owned : AreOwned 8 entered_words 1 4
 entered_owned =
-    empty_owned entered (λ place past low. entered_zero place past (omega arith))
+    empty_owned entered_words (λ place past low. entered_zero place past (omega arith))
     (entered_other 4 (omega arith)) (entered_other 5 (omega arith)) (entered_other 6 (omega arith)) (entered_other 7 (omega arith))
     (λ p low e. least_word p low (sym (entered_other p (omega arith)) ∙ e))
 
@@ -96,7 +96,7 @@ not_its_root owned =
 
 -- ---- who is inside
 
-pub inside : IsInside 8 1 entered 1 0
+pub inside : IsInside 8 1 entered_words 1 0
 inside = (0, (omega arith, entered_here))
 
 pub nobody_inside : IsLeft 8 1 rooted 1
@@ -105,11 +105,11 @@ nobody_inside hart on there =
     let is : get_or rooted (hart_word 8 1 hart) 0 ≡ 2 ^ 32 * 1 + there.0 = there.1.1 in
     absurd (omega arith)
 
-pub within : EntersWithin 8 1 entered
+pub within : EntersWithin 8 1 entered_words
 within tvm hart number low high on there =
     let one : hart ≡ 0 = omega arith in
-    let word : get_or entered (hart_word 8 1 hart) 0 ≡ 2 ^ 32 * tvm + number = there.1 in
-    let is : get_or entered (hart_word 8 1 hart) 0 ≡ 2 ^ 32 = ap (λ h. get_or entered (hart_word 8 1 h) 0) one ∙ entered_here in
+    let word : get_or entered_words (hart_word 8 1 hart) 0 ≡ 2 ^ 32 * tvm + number = there.1 in
+    let is : get_or entered_words (hart_word 8 1 hart) 0 ≡ 2 ^ 32 = ap (λ h. get_or entered_words (hart_word 8 1 h) 0) one ∙ entered_here in
     let small : number < 2 ^ 32 = there.0 in
     omega arith
 
@@ -123,7 +123,7 @@ not_within most =
 
 -- ---- what a hart inside relies on
 
-pub live : IsGuestLive 8 1 entered 1 4 0 (guest no_rings)
+pub live : IsGuestLive 8 1 entered_words 1 4 0 (guest no_rings)
 live = record {
   low = omega arith;
   high = omega arith;
@@ -143,10 +143,10 @@ live = record {
     tables_or None = []
     tables_or (Some way) = way.tables
 
-pub not_mapped : IsGuestLive 8 1 entered 1 4 0 (guest fetching) → ⊥
+pub not_mapped : IsGuestLive 8 1 entered_words 1 4 0 (guest fetching) → ⊥
 not_mapped live =
     let reach = live.fetches 9 (record { 0 = 2 }) refl in
-    let none : entry_at 8 4 entered (InLast 9) ≡ 0 = no_entry entered (λ place past low. entered_zero place past (omega arith)) (InLast 9) (omega arith) in
+    let none : entry_at 8 4 entered_words (InLast 9) ≡ 0 = no_entry entered_words (λ place past low. entered_zero place past (omega arith)) (InLast 9) (omega arith) in
     elim reach.1.1 [
       | inl is ↦ present_none 2 false (sym is ∙ none)
       | inr held ↦ blocked_none 2 false held.0 (sym held.2 ∙ none)
@@ -154,32 +154,32 @@ not_mapped live =
 
 -- ---- lawful stores
 
-own_table : IsTableOf entered 1 4
+own_table : IsTableOf entered_words 1 4
 own_table = inl (entered_other 4 (omega arith))
 
-table_zero : get_or entered (table_word 8 4 0) 0 ≡ 0
+table_zero : get_or entered_words (table_word 8 4 0) 0 ≡ 0
 table_zero = entered_zero (table_word 8 4 0) (omega arith) (omega arith)
 
-pub own_page_mapped : IsLawful 8 1 0 entered entered (table_word 8 4 0) (private_leaf 2)
+pub own_page_mapped : IsLawful 8 1 0 entered_words entered_words (table_word 8 4 0) (private_leaf 2)
 own_page_mapped =
     ChangesTable 1 4 0 (omega arith) (omega arith) refl own_table
     (Maps 2 false table_zero refl (omega arith) (entered_other 2 (omega arith)))
 
-host_change : (tvm : ℕ) → tvm ≡ 1 → TableChange 8 1 entered tvm entered (table_word 8 4 0) (get_or entered (table_word 8 4 0) 0) (private_leaf 0) → ⊥
+host_change : (tvm : ℕ) → tvm ≡ 1 → TableChange 8 1 entered_words tvm entered_words (table_word 8 4 0) (get_or entered_words (table_word 8 4 0) 0) (private_leaf 0) → ⊥
 host_change tvm one (Links q none is q-below q-given unnamed zeros) = present_next 0 false q is
 host_change tvm one (Maps p s none is p-below behind) = go (present_same 0 false p s is)
   where
     go : (0 ≡ p) × (false ≡ s) → ⊥
     go same =
-        let data_word : get_or entered 0 0 ≡ given tvm Data = subst (λ x. IsBehindLeaf entered tvm x false) (sym same.0) (subst (IsBehindLeaf entered tvm p) (sym same.1) behind) in
-        let is : get_or entered 0 0 ≡ 0 = entered_other 0 (omega arith) in
+        let data_word : get_or entered_words 0 0 ≡ given tvm Data = subst (λ x. IsBehindLeaf entered_words tvm x false) (sym same.0) (subst (IsBehindLeaf entered_words tvm p) (sym same.1) behind) in
+        let is : get_or entered_words 0 0 ≡ 0 = entered_other 0 (omega arith) in
         absurd (omega arith)
 host_change tvm one (Blocks p s r g p-small was is root_is g-low stands before) = present_none p s (sym was ∙ table_zero)
 host_change tvm one (Unblocks p s since p-small was is) = blocked_none p s since (sym was ∙ table_zero)
 host_change tvm one (Unmaps p s since p-small was is fenced above) = blocked_none p s since (sym was ∙ table_zero)
-host_change tvm one (Rewrites left) = left 0 (omega arith) (subst (λ t. IsInside 8 1 entered t 0) (sym one) inside)
+host_change tvm one (Rewrites left) = left 0 (omega arith) (subst (λ t. IsInside 8 1 entered_words t 0) (sym one) inside)
 
-pub host_page_mapped : IsLawful 8 1 0 entered entered (table_word 8 4 0) (private_leaf 0) → ⊥
+pub host_page_mapped : IsLawful 8 1 0 entered_words entered_words (table_word 8 4 0) (private_leaf 0) → ⊥
 host_page_mapped (Counts page before after below at was new few) = absurd (omega arith)
 host_page_mapped (Converts page below at was now new) = absurd (omega arith)
 host_page_mapped (Frees page below at free new) = absurd (omega arith)
@@ -188,7 +188,7 @@ host_page_mapped (TakesBack page u role below at was new left) = absurd (omega a
 host_page_mapped (Removes page u below at was new none) = absurd (omega arith)
 host_page_mapped (ChangesTable u page i below low at of change) =
     let same : page ≡ 4 = omega arith in
-    host_change u (one_owner entered u 1 4 (subst (IsTableOf entered u) same of) own_table) change
+    host_change u (one_owner entered_words u 1 4 (subst (IsTableOf entered_words u) same of) own_table) change
 host_page_mapped (Answers is at new) = absurd (omega arith)
 host_page_mapped (Begins at room new all) = absurd (omega arith)
 host_page_mapped (FencesTvm u low high at room new all) = absurd (omega arith)

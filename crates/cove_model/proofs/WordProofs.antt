@@ -7,7 +7,7 @@ use Rattle.cove_base.specs.Places.{epoch_word, answered_word, all_words}
 use Rattle.cove_model.specs.Owners.{without, page_at, converted, fenced, fence_answered, reclaimed}
 use Rattle.cove_model.specs.States.{harts_below}
 use Rattle.cove_model.specs.WordsStand.{epoch_in, answered_in, maps_of}
-use Rattle.cove_model.specs.WordLaws.{ConvertStands, GlobalFenceStands, LocalFenceStands, ReclaimStands}
+use Rattle.cove_model.specs.WordLaws.{ConvertWordsStand, GlobalFenceWordsStand, LocalFenceWordsStand, ReclaimWordsStand}
 use Rattle.cove_model.proofs.Runs.{every_at}
 use Rattle.cove_model.proofs.HartLists.{others_behind, without-behind}
 use Rattle.cove_model.proofs.PageLaws.{converted_page, fenced_page, answered_page}
@@ -15,7 +15,7 @@ use Rattle.cove_model.proofs.SharedPages.{free_not_shared}
 use Rattle.cove_model.proofs.ToldProofs.{maps_none}
 use Rattle.cove_model.proofs.StandLemmas.{host_page, free_page, filled_stand, answered_stand}
 
-pub convert_stands : ConvertStands
+pub convert_stands : ConvertWordsStand
 convert_stands pages harts words S hart base n some inside all stand =
     let owners = stand.stands.owners in
     filled_stand pages harts words S (converted (harts_below S.harts)) (base / 4096) n (converting (epoch_in pages words)) inside (λ o e. grind arith)
@@ -23,13 +23,13 @@ convert_stands pages harts words S hart base n some inside all stand =
     let was = host_page (page_at S.pages p) (every_at _ (base / 4096) n S.pages all p low high (omega (arith, owners.page_count))) in
     rw (was.1, owners.hart_count) (converted_page harts (epoch_in pages words) (answered_in pages words) (maps_of S p) some stand.within was.0)) stand
 
-pub reclaim_stands : ReclaimStands
+pub reclaim_stands : ReclaimWordsStand
 reclaim_stands pages harts words S hart base n inside all sound stand =
     filled_stand pages harts words S reclaimed (base / 4096) n (host 0) inside (λ o e. grind arith) (λ p low high within.
     let was = free_page (page_at S.pages p) (every_at _ (base / 4096) n S.pages all p low high (omega (arith, stand.stands.owners.page_count))) in
     rw was (ap host (sym (maps_none S p (free_not_shared S p sound was))))) stand
 
-pub global_fence_stands : GlobalFenceStands
+pub global_fence_stands : GlobalFenceWordsStand
 global_fence_stands pages harts words S hart on answers stand =
     let size : length words ≡ all_words pages harts = stand.stands.size in
     let count = stand.stands.owners.hart_count in
@@ -56,7 +56,7 @@ global_fence_stands pages harts words S hart on answers stand =
       ];
     }
 
-pub local_fence_stands : LocalFenceStands
+pub local_fence_stands : LocalFenceWordsStand
 local_fence_stands pages harts words S hart on stand =
     let size : length words ≡ all_words pages harts = stand.stands.size in
     let epoch = epoch_in pages words in

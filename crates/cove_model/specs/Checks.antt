@@ -7,7 +7,7 @@ use Rattle.cove_base.specs.declared.limits.TheConstants.{TVM_LIMIT, VCPU_LIMIT, 
 use Rattle.cove_base.specs.declared.statuses.Status.TheVariants.{Failed, InvalidParam, Denied, InvalidAddress, AlreadyAvailable, AlreadyStarted, AlreadyStopped}
 use Rattle.cove_model.specs.Owners.{has, is_host, is_free, every}
 use Rattle.cove_model.specs.Refusals.{Check, plain}
-use Rattle.cove_model.specs.GuestPages.{guests, is_private, is_shared, meets, missing_tables}
+use Rattle.cove_model.specs.GuestPages.{is_private, is_shared, meets_run, missing_tables, page_run}
 use Rattle.cove_model.specs.Mappings.{is_fenced, is_kind_kept, is_present, is_waited, mapping_of}
 use Rattle.cove_model.specs.States.{State, cpu_at, find_cpu, find_tvm, harts_inside, runner, shared_pages, tvm_at}
 use Rattle.cove_model.specs.Tvms.{Mapping, Binding, Unbinding, NotBegun, Begun, Cpu, Tvm}
@@ -15,8 +15,8 @@ use Rattle.cove_model.specs.Tvms.{Mapping, Binding, Unbinding, NotBegun, Begun, 
 -- ---- numbers and pages of the board
 
 -- the pages are within the memory
-abbrev pub Inside : State → (base n : ℕ) → Check
-Inside S base n = plain (is_outside base n (length S.pages)) InvalidAddress
+abbrev pub WithinMemory : State → (base n : ℕ) → Check
+WithinMemory S base n = plain (is_outside base n (length S.pages)) InvalidAddress
 
 -- every page is the host's
 abbrev pub AllHost : State → (base n : ℕ) → Check
@@ -88,7 +88,7 @@ IsArea gpa len = plain (len == 0 || nat_lt (2 ^ 41) (gpa + len)) InvalidAddress
 
 -- it meets no region of the TVM
 abbrev pub NoOverlap : State → (t gpa len : ℕ) → Check
-NoOverlap S t gpa len = plain (list_any (meets (gpa / 4096) (len / 4096)) (tvm_at S t).regions) InvalidAddress
+NoOverlap S t gpa len = plain (list_any (meets_run (gpa / 4096) (len / 4096)) (tvm_at S t).regions) InvalidAddress
 
 -- the TVM may have another region
 abbrev pub RoomForRegion : State → (t : ℕ) → Check
@@ -98,10 +98,10 @@ RoomForRegion S t = plain (nat_le REGION_LIMIT (length (tvm_at S t).regions)) Fa
 
 -- every guest page is private, or shared
 abbrev pub AllPrivate : State → (t gpa n : ℕ) → Check
-AllPrivate S t gpa n = plain (not (list_all (is_private (tvm_at S t)) (guests gpa n))) InvalidAddress
+AllPrivate S t gpa n = plain (not (list_all (is_private (tvm_at S t)) (page_run gpa n))) InvalidAddress
 
 abbrev pub AllShared : State → (t gpa n : ℕ) → Check
-AllShared S t gpa n = plain (not (list_all (is_shared (tvm_at S t)) (guests gpa n))) InvalidAddress
+AllShared S t gpa n = plain (not (list_all (is_shared (tvm_at S t)) (page_run gpa n))) InvalidAddress
 
 -- a test of the mapping of a guest page; none passes it
 abbrev pub is_mapped_by : (test : Mapping → Bool) → Tvm → (g : ℕ) → Bool
@@ -110,7 +110,7 @@ is_mapped_by test tvm g = option_map_or test (mapping_of tvm g) false
 -- no guest page has a mapping
 abbrev pub Unmapped : State → (t gpa n : ℕ) → Check
 Unmapped S t gpa n =
-    plain (list_any (λ g. is_some (mapping_of (tvm_at S t) g)) (guests gpa n)) AlreadyAvailable
+    plain (list_any (λ g. is_some (mapping_of (tvm_at S t) g)) (page_run gpa n)) AlreadyAvailable
 
 -- the pool has the table pages that a mapping needs; the value is how many are missing
 abbrev pub EnoughTables : State → (t gpa n : ℕ) → Check
@@ -121,21 +121,21 @@ EnoughTables S t gpa n =
 -- every guest page has a mapping that is present, or that is blocked
 abbrev pub AllPresent : State → (t gpa n : ℕ) → Check
 AllPresent S t gpa n =
-    plain (not (list_all (is_mapped_by (λ mapping. is_present mapping.standing) (tvm_at S t)) (guests gpa n))) InvalidAddress
+    plain (not (list_all (is_mapped_by (λ mapping. is_present mapping.standing) (tvm_at S t)) (page_run gpa n))) InvalidAddress
 
 abbrev pub AllBlocked : State → (t gpa n : ℕ) → Check
 AllBlocked S t gpa n =
-    plain (not (list_all (is_mapped_by (λ mapping. not (is_present mapping.standing)) (tvm_at S t)) (guests gpa n))) InvalidAddress
+    plain (not (list_all (is_mapped_by (λ mapping. not (is_present mapping.standing)) (tvm_at S t)) (page_run gpa n))) InvalidAddress
 
 -- the kind of each guest page is the one that it is mapped as
 abbrev pub KindsKept : State → (t gpa n : ℕ) → Check
 KindsKept S t gpa n =
-    plain (not (list_all (is_mapped_by (λ mapping. is_kind_kept (tvm_at S t) mapping.guest mapping.backing) (tvm_at S t)) (guests gpa n))) Denied
+    plain (not (list_all (is_mapped_by (λ mapping. is_kind_kept (tvm_at S t) mapping.guest mapping.backing) (tvm_at S t)) (page_run gpa n))) Denied
 
 -- a fence of the TVM came after each was blocked, and is complete
 abbrev pub AllFenced : State → (t gpa n : ℕ) → Check
 AllFenced S t gpa n =
-    plain (not (list_all (is_mapped_by (λ mapping. is_fenced mapping.standing) (tvm_at S t)) (guests gpa n))) Denied
+    plain (not (list_all (is_mapped_by (λ mapping. is_fenced mapping.standing) (tvm_at S t)) (page_run gpa n))) Denied
 
 -- ---- vCPUs
 

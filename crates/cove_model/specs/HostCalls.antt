@@ -6,8 +6,8 @@ use Rattle.cove_model.specs.Owners.{Purpose, AsRoot, AsState, AsTable, AsVcpu, A
 use Rattle.cove_model.specs.Refusals.{Check, Count, Aligned}
 use Rattle.cove_model.specs.States.{harts_below, State, harts_inside, new_cpu, on_cpu, on_tvm, seated}
 use Rattle.cove_model.specs.Types.{HostCall, Convert, GlobalFence, LocalFence, Reclaim, Create, Region, Tables, Measured, Vcpu, Finalize, Zero, Shared, Run, Invalidate, TvmFence, Validate, Remove, Destroy, Kick, Info, Bind, Unbind, Unbound, Inject}
-use Rattle.cove_model.specs.Checks.{Inside, AllHost, AllFree, NoneShared, AllAnswered, OnBoard, RoomForTvm, RootAligned, StateApart, Live, IsBuilding, IsRunnable, NobodyInside, AllLeft, IsArea, NoOverlap, RoomForRegion, AllPrivate, AllShared, Unmapped, EnoughTables, AllPresent, AllBlocked, KindsKept, AllFenced, CpuNumber, NoCpuYet, HasCpu, HasSomeCpu, PlaceAligned, Fuel, NotRunning, NotStopped, NotElsewhere, NotLeaving, UnbindingNotBegun, UnbindingBegun, UnbindingFenced, IsBound, NotBound, FileNumber, FileNotTaken, Identity, IsAllowed}
-use Rattle.cove_model.specs.GuestPages.{guests, is_among}
+use Rattle.cove_model.specs.Checks.{WithinMemory, AllHost, AllFree, NoneShared, AllAnswered, OnBoard, RoomForTvm, RootAligned, StateApart, Live, IsBuilding, IsRunnable, NobodyInside, AllLeft, IsArea, NoOverlap, RoomForRegion, AllPrivate, AllShared, Unmapped, EnoughTables, AllPresent, AllBlocked, KindsKept, AllFenced, CpuNumber, NoCpuYet, HasCpu, HasSomeCpu, PlaceAligned, Fuel, NotRunning, NotStopped, NotElsewhere, NotLeaving, UnbindingNotBegun, UnbindingBegun, UnbindingFenced, IsBound, NotBound, FileNumber, FileNotTaken, Identity, IsAllowed}
+use Rattle.cove_model.specs.GuestPages.{is_among, page_run}
 use Rattle.cove_base.specs.InterruptFiles.{raised}
 use Rattle.cove_model.specs.Keyed.{dropped}
 use Rattle.cove_model.specs.Mappings.{blocked_standing, fenced_tvm, own_mappings, rebound, restood, shared_mappings, unblocked_standing, with_mappings}
@@ -54,7 +54,7 @@ giving_memory t base n gpa S = record S {
 
 -- the words of the n pages of the host's from an address on
 abbrev pub page_words_from : State → (base n : ℕ) → List (List ℕ)
-page_words_from S base n = map (λ p. words_of (page_at S.pages p)) (guests base n)
+page_words_from S base n = map (λ p. words_of (page_at S.pages p)) (page_run base n)
 
 -- the records of pages at the guest addresses from one on
 abbrev pub page_records : (gpa : ℕ) → List (List ℕ) → List Record
@@ -70,7 +70,7 @@ started pc arg cpu = record cpu {
 
 abbrev pub rule : State → (hart : ℕ) → HostCall → Rule
 rule S h (Convert base n) = simply
-    (Count n ∷ Aligned base ∷ Inside S base n ∷ AllHost S base n ∷ NoneShared S base n ∷ [])
+    (Count n ∷ Aligned base ∷ WithinMemory S base n ∷ AllHost S base n ∷ NoneShared S base n ∷ [])
     (record S { pages = change (converted (harts_below S.harts)) (base / 4096) n S.pages })
 rule S h GlobalFence =
     let others = without h (harts_below S.harts) in
@@ -78,30 +78,30 @@ rule S h GlobalFence =
 rule S h LocalFence =
     forgetting ForgetsAll [] (record S { pages = map (fence_answered h) S.pages; unanswered = without h S.unanswered })
 rule S h (Reclaim base n) = simply
-    (Count n ∷ Aligned base ∷ Inside S base n ∷ AllFree S base n ∷ [])
+    (Count n ∷ Aligned base ∷ WithinMemory S base n ∷ AllFree S base n ∷ [])
     (record S { pages = change reclaimed (base / 4096) n S.pages })
 rule S h (Create root state) =
     let t = S.made + 1 in
     giving t
-    (RoomForTvm S ∷ RootAligned root ∷ Aligned state ∷ Inside S root 4 ∷ Inside S state 1 ∷ StateApart root state
+    (RoomForTvm S ∷ RootAligned root ∷ Aligned state ∷ WithinMemory S root 4 ∷ WithinMemory S state 1 ∷ StateApart root state
     ∷ AllFree S root 4 ∷ AllFree S state 1 ∷ [])
     (giving_pages t AsState state 1 (giving_pages t AsRoot root 4 (record S { tvms = S.tvms ++ new_tvm t ∷ []; made = t })))
 rule S h (Region t gpa len) = simply
     (Live S t ∷ IsBuilding S t ∷ Aligned gpa ∷ Aligned len ∷ IsArea gpa len ∷ NoOverlap S t gpa len ∷ RoomForRegion S t ∷ [])
     (on_tvm t (λ tvm. record tvm { regions = tvm.regions ++ record { first = gpa / 4096; count = len / 4096 } ∷ [] }) S)
 rule S h (Tables t base n) = simply
-    (Live S t ∷ Count n ∷ Aligned base ∷ Inside S base n ∷ AllFree S base n ∷ [])
-    (on_tvm t (λ tvm. record tvm { tables = tvm.tables ++ guests base n }) (giving_pages t AsTable base n S))
+    (Live S t ∷ Count n ∷ Aligned base ∷ WithinMemory S base n ∷ AllFree S base n ∷ [])
+    (on_tvm t (λ tvm. record tvm { tables = tvm.tables ++ page_run base n }) (giving_pages t AsTable base n S))
 rule S h (Measured t src dst n gpa) =
     let contents = page_words_from S src n in
     simply
-    (Live S t ∷ IsBuilding S t ∷ Count n ∷ Aligned src ∷ Aligned dst ∷ Aligned gpa ∷ Inside S src n ∷ Inside S dst n
+    (Live S t ∷ IsBuilding S t ∷ Count n ∷ Aligned src ∷ Aligned dst ∷ Aligned gpa ∷ WithinMemory S src n ∷ WithinMemory S dst n
     ∷ AllHost S src n ∷ AllFree S dst n ∷ AllPrivate S t gpa n ∷ Unmapped S t gpa n ∷ EnoughTables S t gpa n ∷ [])
     (on_tvm t (λ tvm. record (with_mappings gpa n (own_mappings (gpa / 4096) (dst / 4096) contents) tvm) {
       records = tvm.records ++ page_records gpa contents;
     }) (giving_memory t dst n gpa S))
 rule S h (Vcpu t v state) = simply
-    (Live S t ∷ IsBuilding S t ∷ CpuNumber v ∷ NoCpuYet S t v ∷ Aligned state ∷ Inside S state 1 ∷ AllFree S state 1 ∷ [])
+    (Live S t ∷ IsBuilding S t ∷ CpuNumber v ∷ NoCpuYet S t v ∷ Aligned state ∷ WithinMemory S state 1 ∷ AllFree S state 1 ∷ [])
     (on_tvm t (λ tvm. record tvm { cpus = tvm.cpus ++ new_cpu v ∷ [] }) (giving_pages t AsVcpu state 1 S))
 rule S h (Finalize t pc arg) = simply
     (Live S t ∷ IsBuilding S t ∷ HasSomeCpu S t ∷ PlaceAligned pc ∷ [])
@@ -111,11 +111,11 @@ rule S h (Finalize t pc arg) = simply
       cpus = map (started pc arg) tvm.cpus;
     }) S)
 rule S h (Zero t base n gpa) = simply
-    (Live S t ∷ IsRunnable S t ∷ Count n ∷ Aligned base ∷ Aligned gpa ∷ Inside S base n ∷ AllFree S base n
+    (Live S t ∷ IsRunnable S t ∷ Count n ∷ Aligned base ∷ Aligned gpa ∷ WithinMemory S base n ∷ AllFree S base n
     ∷ AllPrivate S t gpa n ∷ Unmapped S t gpa n ∷ EnoughTables S t gpa n ∷ [])
     (on_tvm t (with_mappings gpa n (own_mappings (gpa / 4096) (base / 4096) (replicate n zeros))) (giving_memory t base n gpa S))
 rule S h (Shared t base n gpa) = simply
-    (Live S t ∷ IsRunnable S t ∷ Count n ∷ Aligned base ∷ Aligned gpa ∷ Inside S base n ∷ AllHost S base n
+    (Live S t ∷ IsRunnable S t ∷ Count n ∷ Aligned base ∷ Aligned gpa ∷ WithinMemory S base n ∷ AllHost S base n
     ∷ AllShared S t gpa n ∷ Unmapped S t gpa n ∷ EnoughTables S t gpa n ∷ [])
     (on_tvm t (with_mappings gpa n (shared_mappings (gpa / 4096) (base / 4096) n)) S)
 rule S h (Run t v fuel) = forgetting ForgetsGuests

@@ -26,17 +26,17 @@ pub record IsOrderly (S : State) : Type 0 where
   pub given : (p t : ℕ) (purpose : Purpose) → page_at S.pages p ≡ Given t purpose → has t (numbers_of S) ≡ true
 
 -- a file of a hart
-pub record Place : Type 0 where
+pub record BoundFile : Type 0 where
   pub hart : ℕ
   pub file : ℕ
 
 -- the file of a binding, and that of a vCPU, where it is bound
-abbrev pub place_in : Option Binding → Option Place
-place_in None = None
-place_in (Some bound) = Some (record { hart = bound.hart; file = bound.file })
+abbrev pub bound_file_in : Option Binding → Option BoundFile
+bound_file_in None = None
+bound_file_in (Some bound) = Some (record { hart = bound.hart; file = bound.file })
 
-abbrev pub place_of : State → (t v : ℕ) → Option Place
-place_of S t v = place_in (binding_of S t v)
+abbrev pub bound_file_of : State → (t v : ℕ) → Option BoundFile
+bound_file_of S t v = bound_file_in (binding_of S t v)
 
 -- the numbers of a TVM's vCPUs
 abbrev pub cpus_of : Tvm → List ℕ
@@ -45,4 +45,4 @@ cpus_of tvm = map (λ cpu. cpu.number) tvm.cpus
 -- the numbers of a TVM's vCPUs differ, and no two vCPUs are bound to one file
 pub record AreBoundApart (S : State) : Type 0 where
   pub cpus : (t : ℕ) → AreDistinct (cpus_of (tvm_at S t))
-  pub files : (t u v w : ℕ) (place : Place) → place_of S t v ≡ Some place → place_of S u w ≡ Some place → (t ≡ u) × (v ≡ w)
+  pub files : (t u v w : ℕ) (place : BoundFile) → bound_file_of S t v ≡ Some place → bound_file_of S u w ≡ Some place → (t ≡ u) × (v ≡ w)

@@ -11,8 +11,8 @@ use Rattle.cove_model.specs.Translations.{holds_target, tlb}
 -- what a hart knows of a walk that it made and did not use yet
 pub data Note : Type 0 where
   Unwalked : Note
-  Found : Note
-  Missing : Note
+  WalkFound : Note
+  WalkMissed : Note
 
 -- the history so far, and the note of each hart
 pub record Play : Type 0 where
@@ -29,7 +29,7 @@ noted hart note notes other = if other == hart then note else notes other
 
 -- the hart makes a walk, and keeps whether it found its target
 abbrev pub walked : Play → (hart : ℕ) → Bool → Play
-walked play hart found = record play { notes = noted hart (if found then Found else Missing) play.notes }
+walked play hart found = record play { notes = noted hart (if found then WalkFound else WalkMissed) play.notes }
 
 -- an entry of a hart
 abbrev pub entry_by : (hart : ℕ) → Event → Entry
@@ -44,8 +44,8 @@ entered play hart event =
 abbrev pub ending : (holds : Bool) → Note → (found : Bool) → Option How
 ending true note found = Some Hit
 ending false Unwalked found = if found then Some Walk else None
-ending false Found found = Some Walk
-ending false Missing found = if found then Some Walk else None
+ending false WalkFound found = Some Walk
+ending false WalkMissed found = if found then Some Walk else None
 
 -- the event of an access that ends so
 abbrev pub ended_event : (success : How → Event) (fault : Event) → Option How → Event
@@ -64,8 +64,8 @@ entry_turn script play S h (Touch target success fault) =
 abbrev pub walks_first : (holds : Bool) → Note → Bool
 walks_first true note = false
 walks_first false Unwalked = true
-walks_first false Found = false
-walks_first false Missing = false
+walks_first false WalkFound = false
+walks_first false WalkMissed = false
 
 abbrev pub sought_turn : ScriptValue → Play → State → (hart : ℕ) → Offer → Option Target → Play
 sought_turn script play S h offered None = entry_turn script play S h offered

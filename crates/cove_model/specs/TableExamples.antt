@@ -14,8 +14,8 @@ rooted = (host 0 ∷ host 0 ∷ given 1 Data ∷ released ∷ given 1 Root ∷ g
     ++ replicate (all_words 8 1 - 8) 0
 
 -- the same where the hart is inside TVM 1, and entered with 0
-abbrev pub entered : List ℕ
-entered = slice_set rooted (hart_word 8 1 0) (2 ^ 32)
+abbrev pub entered_words : List ℕ
+entered_words = slice_set rooted (hart_word 8 1 0) (2 ^ 32)
 
 -- what it holds
 abbrev pub guest : HartRings → Holding

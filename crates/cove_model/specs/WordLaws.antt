@@ -44,32 +44,32 @@ pub record Stand (pages harts : ℕ) (words : List ℕ) (S : State) : Type 0 whe
   pub within : AnswersWithin pages harts words
 
 -- an accepted convert
-abbrev pub ConvertStands : Type 0
-ConvertStands =
+abbrev pub ConvertWordsStand : Type 0
+ConvertWordsStand =
     (pages harts : ℕ) (words : List ℕ) (S : State) (hart base n : ℕ)
     → 0 < harts → base / 4096 + n ≤ pages → every is_host (base / 4096) n S.pages ≡ true
     → Stand pages harts words S
     → Stand pages harts (stored words (convert_stores pages words base n)) (effect S hart (Convert base n))
 
 -- an accepted global fence
-abbrev pub GlobalFenceStands : Type 0
-GlobalFenceStands =
+abbrev pub GlobalFenceWordsStand : Type 0
+GlobalFenceWordsStand =
     (pages harts : ℕ) (words : List ℕ) (S : State) (hart : ℕ)
     → hart < harts → AllAnswer pages harts words
     → Stand pages harts words S
     → Stand pages harts (stored words (global_fence_stores pages words hart)) (effect S hart GlobalFence)
 
 -- a local fence
-abbrev pub LocalFenceStands : Type 0
-LocalFenceStands =
+abbrev pub LocalFenceWordsStand : Type 0
+LocalFenceWordsStand =
     (pages harts : ℕ) (words : List ℕ) (S : State) (hart : ℕ)
     → hart < harts
     → Stand pages harts words S
     → Stand pages harts (stored words (local_fence_stores pages words hart)) (effect S hart LocalFence)
 
 -- an accepted reclaim
-abbrev pub ReclaimStands : Type 0
-ReclaimStands =
+abbrev pub ReclaimWordsStand : Type 0
+ReclaimWordsStand =
     (pages harts : ℕ) (words : List ℕ) (S : State) (hart base n : ℕ)
     → base / 4096 + n ≤ pages → every is_free (base / 4096) n S.pages ≡ true
     → IsSound S → Stand pages harts words S
@@ -101,8 +101,8 @@ CountLeavesWords =
     → Stand pages harts (slice_set words (place_of pages harts CountWord) word) S
 
 -- at the opening every word is 0
-abbrev pub OpeningStands : Type 0
-OpeningStands =
+abbrev pub OpeningWordsStand : Type 0
+OpeningWordsStand =
     (script : ScriptValue)
     → Stand script.pages script.harts (replicate (all_words script.pages script.harts) 0) (opening script)
 

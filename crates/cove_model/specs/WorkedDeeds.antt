@@ -13,7 +13,7 @@ use Rattle.cove_model.specs.States.{Seat, State, cpu_at, new_cpu, on_cpu, on_tvm
 use Rattle.cove_model.specs.Steps.{acted, after_event, performed}
 use Rattle.cove_model.specs.Tvms.{OwnPage, HostPage, Present, Blocked, NotBegun, Begun, Cpu, Tvm}
 use Rattle.cove_model.specs.Types.{Event, GuestAct, Reply}
-use Rattle.cove_model.specs.WorkedRows.{bound, failures, joined_by, with_page, with_tvm}
+use Rattle.cove_model.specs.WorkedRows.{bound, failures, joined_by, with_first_tvm, with_page}
 
 -- ---- guest calls
 
@@ -47,8 +47,8 @@ abbrev pub on_first : (how : Cpu → Cpu) → State → State
 on_first how S = on_tvm 1 (on_cpu 0 how) S
 
 -- the vCPU after it made a call with these arguments
-abbrev pub answered : State → (a0 a1 : ℕ) → GuestAct → Cpu
-answered S a0 a1 act = cpu_in (acted (on_first (λ cpu. record cpu { x = asking a0 a1 0 0; latched = Some 0x73 }) S) 0 first_seat act)
+abbrev pub vcpu_after : State → (a0 a1 : ℕ) → GuestAct → Cpu
+vcpu_after S a0 a1 act = cpu_in (acted (on_first (λ cpu. record cpu { x = asking a0 a1 0 0; latched = Some 0x73 }) S) 0 first_seat act)
 
 -- ---- TVMs by their pages
 
@@ -68,14 +68,14 @@ halved tvm = record tvm { regions = record { first = 16; count = 4 } ∷ record 
 
 -- guest page 16 has the words 1 to 8, and 17 others, but is blocked; 19 shows the words 11 to 18 of a page of the host's
 abbrev pub readable : State
-readable = with_page 7 (Host (range_with_len 11 8)) (with_tvm (λ tvm. record tvm {
+readable = with_page 7 (Host (range_with_len 11 8)) (with_first_tvm (λ tvm. record tvm {
   mappings = mapped 16 (OwnPage 4 (range_with_len 1 8)) Present ∷ mapped 17 (OwnPage 5 (range_with_len 21 8)) (Blocked (0 ∷ []) None)
       ∷ mapped 19 (HostPage 7) Present ∷ [];
 }))
 
 -- guest page 16 has two instructions in its first word
 abbrev pub two_instructions : State
-two_instructions = with_tvm (λ tvm. record tvm { mappings = mapped 16 (OwnPage 4 (0x0002b303000112b7 ∷ [])) Present ∷ [] })
+two_instructions = with_first_tvm (λ tvm. record tvm { mappings = mapped 16 (OwnPage 4 (0x0002b303000112b7 ∷ [])) Present ∷ [] })
 
 -- numbers below 256 as eight bytes each, the low one first
 abbrev pub as_bytes : List ℕ → List ℕ
@@ -84,15 +84,15 @@ as_bytes numbers = flat_map (λ n. n ∷ replicate 7 0) numbers
 -- ---- deeds
 
 -- a vCPU that fetched a word, with 0x11000 in x5 and 7 in x6
-abbrev pub fetching : (word : ℕ) → Cpu
-fetching word = record first_cpu { x = replicate 5 0 ++ 0x11000 ∷ 7 ∷ replicate 25 0; latched = Some word }
+abbrev pub fetched_vcpu : (word : ℕ) → Cpu
+fetched_vcpu word = record first_cpu { x = replicate 5 0 ++ 0x11000 ∷ 7 ∷ replicate 25 0; latched = Some word }
 
 -- what it does: unbound; and bound, with a file
 abbrev pub doing : (word : ℕ) → Deed
-doing word = deed_of (fetching word)
+doing word = deed_of (fetched_vcpu word)
 
 abbrev pub doing_with : InterruptFile → (word : ℕ) → Deed
-doing_with file word = deed_of (bound 0 1 NotBegun (record (fetching word) { file = file }))
+doing_with file word = deed_of (bound 0 1 NotBegun (record (fetched_vcpu word) { file = file }))
 
 -- a file that holds an enabled interrupt which is pending, with and without its delivery
 abbrev pub signalled : (delivery : Bool) → InterruptFile
@@ -109,7 +109,7 @@ performing S deed = performed S first_seat deed
 
 -- both harts are inside, both fenced and kicked, and a mapping and an unbinding wait for both
 abbrev pub leaving : State
-leaving = record (joined_by 1 (with_tvm (λ tvm. record tvm {
+leaving = record (joined_by 1 (with_first_tvm (λ tvm. record tvm {
   mappings = mapped 17 (OwnPage 5 zeros) (Blocked (0 ∷ 1 ∷ []) (Some (0 ∷ 1 ∷ []))) ∷ [];
   yet = 0 ∷ 1 ∷ [];
   cpus = record first_cpu { latched = Some 0x73 } ∷ bound 0 1 (Begun (Some (0 ∷ 1 ∷ []))) (new_cpu 1) ∷ [];

@@ -54,11 +54,11 @@ cpu_after S call v = cpu_at (tvm_after S call) v
 abbrev pub with_page : (p : ℕ) → Owner → State → State
 with_page p owner S = record S { pages = slice_set S.pages p owner }
 
-abbrev pub with_tvm : (how : Tvm → Tvm) → State
-with_tvm how = on_tvm 1 how running
+abbrev pub with_first_tvm : (how : Tvm → Tvm) → State
+with_first_tvm how = on_tvm 1 how running
 
 abbrev pub with_cpu : (v : ℕ) → (how : Cpu → Cpu) → State
-with_cpu v how = with_tvm (on_cpu v how)
+with_cpu v how = with_first_tvm (on_cpu v how)
 
 -- a board of two harts and 16 pages that are all free
 abbrev pub all_free : State
@@ -66,10 +66,10 @@ all_free = record (opening (board 2 [] [] [])) { pages = replicate 16 Free }
 
 -- the TVM with no mapping; with its mappings while it is built
 abbrev pub unmapped : State
-unmapped = with_tvm (λ tvm. record tvm { mappings = [] })
+unmapped = with_first_tvm (λ tvm. record tvm { mappings = [] })
 
 abbrev pub mapped_early : State
-mapped_early = with_tvm (λ tvm. record tvm { runnable = false })
+mapped_early = with_first_tvm (λ tvm. record tvm { runnable = false })
 
 -- a TVM whose one region is guest page 512, which no table page serves; one that maps that page, in no region
 abbrev pub far : Tvm → Tvm
@@ -84,7 +84,7 @@ worded = with_page 8 (Host (5 ∷ [])) (with_page 9 (Host (6 ∷ [])) (with_page
 
 -- the private guest page 20 is mapped so and blocked, and after a fence it waits for these harts
 abbrev pub waiting_so : Backing → (waiting : List ℕ) → State
-waiting_so backing waiting = with_tvm (λ tvm. record tvm { mappings = mapped 20 backing (Blocked [] (Some waiting)) ∷ [] })
+waiting_so backing waiting = with_first_tvm (λ tvm. record tvm { mappings = mapped 20 backing (Blocked [] (Some waiting)) ∷ [] })
 
 -- a TVM with as many regions as it may have
 abbrev pub crowded : Tvm → Tvm

@@ -13,7 +13,7 @@ ghost use Rattle.cove_model.specs.GuestExamples.{bound_cpus, building, refused_b
 ghost use Rattle.cove_model.specs.GuestCalls.{guest_rule};
 ghost use Rattle.cove_model.specs.HostCalls.{ForgetsGuests, rule};
 ghost use Rattle.cove_model.specs.Offers.{Single, is_found, may_succeed, offer, target_of};
-ghost use Rattle.cove_model.specs.Orderly.{AreBoundApart, cpus_of, place_of};
+ghost use Rattle.cove_model.specs.Orderly.{AreBoundApart, cpus_of, bound_file_of};
 ghost use Rattle.cove_model.specs.States.{harts_inside, tvm_at};
 ghost use Rattle.cove_model.specs.Owners.{Free, Given, AsRoot, AsState, is_free, page_at};
 ghost use Rattle.cove_model.specs.Pages.{root_of};
@@ -70,9 +70,9 @@ pub fn worked_guest_outcomes()
 {}
 
 /// Two vCPUs are bound apart where their numbers and their files differ.
-pub fn worked_bindings()
-    ensures bound { place_of (bound_cpus 1 1 2) 1 1 ≡ Some (record { hart = 1; file = 2 }) }
-    ensures unbound { place_of unbound 1 1 ≡ None }
+pub fn worked_bound_files()
+    ensures bound { bound_file_of (bound_cpus 1 1 2) 1 1 ≡ Some (record { hart = 1; file = 2 }) }
+    ensures unbound { bound_file_of unbound 1 1 ≡ None }
     ensures numbers { cpus_of tenant ≡ 0 ∷ 1 ∷ [] }
     ensures apart { AreBoundApart (bound_cpus 1 1 2) }
     ensures one_file { AreBoundApart (bound_cpus 1 1 1) → ⊥ }

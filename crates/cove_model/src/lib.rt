@@ -21,7 +21,7 @@ pub use examples::{
     worked_runs, worked_steps, worked_translations, worked_words,
 };
 pub use guest_examples::{
-    worked_bindings, worked_guest_outcomes, worked_guest_refusals, worked_guests,
+    worked_bound_files, worked_guest_outcomes, worked_guest_refusals, worked_guests,
 };
 pub use laws::{
     entries_of_others_leave_a_running_vcpu, harts_keep_fitting, harts_sit_on_vcpus_that_run,

@@ -1,5 +1,5 @@
 ghost use Rattle.cove_model.specs.StoreLaw.{StoresKeepUsable, StoresKeepHost, StoresKeepAnswers, StoresKeepFences};
-ghost use Rattle.cove_model.specs.WordLaws.{OpeningStands, ConvertStands, GlobalFenceStands, LocalFenceStands, ReclaimStands, OthersLeaveOwners, CountLeavesWords};
+ghost use Rattle.cove_model.specs.WordLaws.{OpeningWordsStand, ConvertWordsStand, GlobalFenceWordsStand, LocalFenceWordsStand, ReclaimWordsStand, OthersLeaveOwners, CountLeavesWords};
 ghost use Rattle.cove_model.specs.WordLaws.{ConvertKeepsFrames, GlobalFenceKeepsFrames, LocalFenceKeepsFrames, ReclaimZeroesFrames};
 ghost use Rattle.cove_model.specs.WordLaws.{ConvertIsLawful, GlobalFenceIsLawful, LocalFenceIsLawful, ReclaimIsLawful};
 ghost use Rattle.cove_model.specs.WordLaws.{WordsTellHost, WordsTellShared, WordsTellFree, WordsTellAnswered, WordsTellLowest, WordsAreWords};
@@ -7,11 +7,11 @@ ghost use Rattle.cove_model.specs.WordLaws.{WordsTellHost, WordsTellShared, Word
 /// The law of shared words that stand for a state: what each accepted call on owners stores leaves words that
 /// stand for the definition's state, on any board. It runs no code.
 pub fn words_law()
-    ensures opening { OpeningStands }
-    ensures convert { ConvertStands }
-    ensures global_fence { GlobalFenceStands }
-    ensures local_fence { LocalFenceStands }
-    ensures reclaim { ReclaimStands }
+    ensures opening { OpeningWordsStand }
+    ensures convert { ConvertWordsStand }
+    ensures global_fence { GlobalFenceWordsStand }
+    ensures local_fence { LocalFenceWordsStand }
+    ensures reclaim { ReclaimWordsStand }
 
     // Stores of other words leave what stands.
     ensures others { OthersLeaveOwners }

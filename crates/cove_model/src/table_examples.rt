@@ -6,21 +6,21 @@ ghost use Rattle.cove_base.specs.PageWords.{host};
 ghost use Rattle.cove_base.specs.Places.{hart_word, table_word};
 ghost use Rattle.cove_base.specs.TableWords.{blocked, private_leaf, shared_leaf};
 ghost use Rattle.cove_model.specs.LawfulStores.{AreOwned, IsInside, IsLawful, IsLeft};
-ghost use Rattle.cove_model.specs.TableExamples.{entered, fetching, guest, once_shared, rooted};
+ghost use Rattle.cove_model.specs.TableExamples.{entered_words, fetching, guest, once_shared, rooted};
 ghost use Rattle.cove_model.specs.TableLaw.{EntersWithin, IsGuestLive, MayReach, is_shared_leaf, shared_leaves};
 
 /// Tables that are owned, who is inside, what a hart inside relies on, which stores are lawful, and what is counted.
 pub fn worked_tables()
     ensures owned { AreOwned 8 rooted 1 4 }
     ensures not_its_root { AreOwned 8 (slice_set rooted 6 (host 0)) 1 4 → ⊥ }
-    ensures inside { IsInside 8 1 entered 1 0 }
+    ensures inside { IsInside 8 1 entered_words 1 0 }
     ensures nobody_inside { IsLeft 8 1 rooted 1 }
-    ensures within { EntersWithin 8 1 entered }
+    ensures within { EntersWithin 8 1 entered_words }
     ensures not_within { EntersWithin 8 1 (slice_set rooted (hart_word 8 1 0) (2 ^ 32 + 1)) → ⊥ }
-    ensures live { IsGuestLive 8 1 entered 1 4 0 (guest no_rings) }
-    ensures not_mapped { IsGuestLive 8 1 entered 1 4 0 (guest fetching) → ⊥ }
-    ensures own_page_mapped { IsLawful 8 1 0 entered entered (table_word 8 4 0) (private_leaf 2) }
-    ensures host_page_mapped { IsLawful 8 1 0 entered entered (table_word 8 4 0) (private_leaf 0) → ⊥ }
+    ensures live { IsGuestLive 8 1 entered_words 1 4 0 (guest no_rings) }
+    ensures not_mapped { IsGuestLive 8 1 entered_words 1 4 0 (guest fetching) → ⊥ }
+    ensures own_page_mapped { IsLawful 8 1 0 entered_words entered_words (table_word 8 4 0) (private_leaf 2) }
+    ensures host_page_mapped { IsLawful 8 1 0 entered_words entered_words (table_word 8 4 0) (private_leaf 0) → ⊥ }
     ensures held_yet { MayReach 3 2 false (blocked (private_leaf 2) 4) }
     ensures blocked_before { MayReach 3 2 false (blocked (private_leaf 2) 2) → ⊥ }
     ensures shared_leaf { is_shared_leaf 5 (blocked (shared_leaf 5) 3) ≡ true }

@@ -24,24 +24,24 @@ ghost use Rattle.cove_model.specs.Steps.{after_event, line_ended};
 ghost use Rattle.cove_model.specs.Translations.{Came, Failed as NotFound, forgets_by, touched};
 ghost use Rattle.cove_model.specs.Tvms.{Begun, Blocked, HostPage, OwnPage, Present};
 ghost use Rattle.cove_model.specs.Types.{Event, GuestAct};
-ghost use Rattle.cove_model.specs.WorkedDeeds.{answered, as_bytes, asking, cpu_in, cpu_left_with, doing, doing_with, failing_act, failing_with, fetching, first_seat, halved, leaving, left_with, offered, on_first, one_long, performing, readable, rule_with, signalled, striped, tvm_after_act, two_instructions, wide};
-ghost use Rattle.cove_model.specs.WorkedRows.{answer, answers, bound, joined_by, with_tvm};
+ghost use Rattle.cove_model.specs.WorkedDeeds.{as_bytes, asking, cpu_in, cpu_left_with, doing, doing_with, failing_act, failing_with, fetched_vcpu, first_seat, halved, leaving, left_with, offered, on_first, one_long, performing, readable, rule_with, signalled, striped, tvm_after_act, two_instructions, vcpu_after, wide};
+ghost use Rattle.cove_model.specs.WorkedRows.{answer, answers, bound, joined_by, with_first_tvm};
 
 /// Guest pages that a guest shares and takes back.
 pub fn worked_shares()
     ensures share_unaligned { failing_act running (Share 0x14001 0x1000) ≡ answers (InvalidAddress ∷ []) }
     ensures share_of_half_pages { failing_act running (Share 0x14000 0x1001) ≡ answers (InvalidAddress ∷ []) }
     ensures share_of_nothing { failing_act running (Share 0x14000 0) ≡ answers (InvalidAddress ∷ []) }
-    ensures share_of_16_pages { failing_act (with_tvm wide) (Share 0x10000 0x10000) ≡ [] }
-    ensures share_of_17_pages { failing_act (with_tvm wide) (Share 0x10000 0x11000) ≡ answers (InvalidAddress ∷ []) }
+    ensures share_of_16_pages { failing_act (with_first_tvm wide) (Share 0x10000 0x10000) ≡ [] }
+    ensures share_of_17_pages { failing_act (with_first_tvm wide) (Share 0x10000 0x11000) ≡ answers (InvalidAddress ∷ []) }
     ensures share_of_a_shared_page { failing_act running (Share 0x12000 0x1000) ≡ answers (InvalidAddress ∷ []) }
     ensures share_in_no_region { failing_act running (Share 0x15000 0x1000) ≡ answers (InvalidAddress ∷ []) }
-    ensures share_in_the_second_region { failing_act (with_tvm halved) (Share 0x14000 0x2000) ≡ [] }
-    ensures share_across_two_regions { failing_act (with_tvm (λ tvm. record (halved tvm) { shared = [] })) (Share 0x13000 0x2000) ≡ answers (InvalidAddress ∷ []) }
-    ensures share_of_the_last_row { failing_act (with_tvm (striped 15)) (Share 0x10000 0x1000) ≡ [] }
-    ensures share_of_a_row_too_many { failing_act (with_tvm (striped 16)) (Share 0x10000 0x1000) ≡ answers (Failed ∷ []) }
-    ensures share_that_joins_rows { failing_act (with_tvm (striped 16)) (Share 0x15000 0x1000) ≡ [] }
-    ensures share_in_order { failing_act (with_tvm (striped 16)) (Share 0x100001 0x11001) ≡ answers (replicate 4 InvalidAddress ++ Failed ∷ []) }
+    ensures share_in_the_second_region { failing_act (with_first_tvm halved) (Share 0x14000 0x2000) ≡ [] }
+    ensures share_across_two_regions { failing_act (with_first_tvm (λ tvm. record (halved tvm) { shared = [] })) (Share 0x13000 0x2000) ≡ answers (InvalidAddress ∷ []) }
+    ensures share_of_the_last_row { failing_act (with_first_tvm (striped 15)) (Share 0x10000 0x1000) ≡ [] }
+    ensures share_of_a_row_too_many { failing_act (with_first_tvm (striped 16)) (Share 0x10000 0x1000) ≡ answers (Failed ∷ []) }
+    ensures share_that_joins_rows { failing_act (with_first_tvm (striped 16)) (Share 0x15000 0x1000) ≡ [] }
+    ensures share_in_order { failing_act (with_first_tvm (striped 16)) (Share 0x100001 0x11001) ≡ answers (replicate 4 InvalidAddress ++ Failed ∷ []) }
     ensures shares { tvm_after_act (joined_by 1 running) (Share 0x10000 0x1000) ≡ record tenant {
       shared = 18 ∷ 19 ∷ 16 ∷ [];
       mappings = mapped 16 (OwnPage 4 zeros) (Blocked (1 ∷ []) None) ∷ mapped 17 (OwnPage 5 zeros) (Blocked (0 ∷ []) None)
@@ -53,14 +53,14 @@ pub fn worked_shares()
     ensures unshare_unaligned { failing_act running (Unshare 0x12001 0x1000) ≡ answers (InvalidAddress ∷ []) }
     ensures unshare_of_half_pages { failing_act running (Unshare 0x12000 0x1001) ≡ answers (InvalidAddress ∷ []) }
     ensures unshare_of_nothing { failing_act running (Unshare 0x12000 0) ≡ answers (InvalidAddress ∷ []) }
-    ensures unshare_of_16_pages { failing_act (with_tvm (λ tvm. record (wide tvm) { shared = range_with_len 16 17 })) (Unshare 0x10000 0x10000) ≡ [] }
-    ensures unshare_of_17_pages { failing_act (with_tvm (λ tvm. record (wide tvm) { shared = range_with_len 16 17 })) (Unshare 0x10000 0x11000) ≡ answers (InvalidAddress ∷ []) }
+    ensures unshare_of_16_pages { failing_act (with_first_tvm (λ tvm. record (wide tvm) { shared = range_with_len 16 17 })) (Unshare 0x10000 0x10000) ≡ [] }
+    ensures unshare_of_17_pages { failing_act (with_first_tvm (λ tvm. record (wide tvm) { shared = range_with_len 16 17 })) (Unshare 0x10000 0x11000) ≡ answers (InvalidAddress ∷ []) }
     ensures unshare_of_a_private_page { failing_act running (Unshare 0x10000 0x1000) ≡ answers (InvalidAddress ∷ []) }
     ensures unshare_in_no_region { failing_act running (Unshare 0x15000 0x1000) ≡ answers (InvalidAddress ∷ []) }
-    ensures unshare_across_two_regions { failing_act (with_tvm (λ tvm. record (halved tvm) { shared = 19 ∷ 20 ∷ [] })) (Unshare 0x13000 0x2000) ≡ answers (InvalidAddress ∷ []) }
-    ensures unshare_that_splits_a_row { failing_act (with_tvm one_long) (Unshare 0x3d000 0x1000) ≡ answers (Failed ∷ []) }
-    ensures unshare_that_shortens_a_row { failing_act (with_tvm one_long) (Unshare 0x3e000 0x1000) ≡ [] }
-    ensures unshare_in_order { failing_act (with_tvm one_long) (Unshare 0x3d001 0x1001) ≡ answers (InvalidAddress ∷ InvalidAddress ∷ Failed ∷ []) }
+    ensures unshare_across_two_regions { failing_act (with_first_tvm (λ tvm. record (halved tvm) { shared = 19 ∷ 20 ∷ [] })) (Unshare 0x13000 0x2000) ≡ answers (InvalidAddress ∷ []) }
+    ensures unshare_that_splits_a_row { failing_act (with_first_tvm one_long) (Unshare 0x3d000 0x1000) ≡ answers (Failed ∷ []) }
+    ensures unshare_that_shortens_a_row { failing_act (with_first_tvm one_long) (Unshare 0x3e000 0x1000) ≡ [] }
+    ensures unshare_in_order { failing_act (with_first_tvm one_long) (Unshare 0x3d001 0x1001) ≡ answers (InvalidAddress ∷ InvalidAddress ∷ Failed ∷ []) }
     ensures unshares { tvm_after_act (joined_by 1 running) (Unshare 0x13000 0x1000) ≡ record tenant {
       shared = 18 ∷ [];
       mappings = mapped 16 (OwnPage 4 zeros) Present ∷ mapped 17 (OwnPage 5 zeros) (Blocked (0 ∷ []) None)
@@ -97,21 +97,21 @@ pub fn worked_guest_calls()
         ≡ Some (mapped 16 (OwnPage 4 (overwritten 1 (words_in (evidence_at readable 1 0x10000)) (range_with_len 1 8))) Present) }
     ensures overwrites { overwritten 2 (7 ∷ 8 ∷ []) (range_with_len 1 6) ≡ 1 ∷ 2 ∷ 7 ∷ 8 ∷ 5 ∷ 6 ∷ [] }
     ensures bytes_are_words { words_in (as_bytes (3 ∷ 4 ∷ [])) ≡ 3 ∷ 4 ∷ [] }
-    ensures told_evidence { answered readable 0x10000 0x10000 GuestAct.Evidence ≡ record first_cpu { x = asking 0 360 0 0; pc = 65540; fuel = 2 } }
+    ensures told_evidence { vcpu_after readable 0x10000 0x10000 GuestAct.Evidence ≡ record first_cpu { x = asking 0 360 0 0; pc = 65540; fuel = 2 } }
     ensures allow_of_nothing { failing_act running (Allow 0) ≡ answers (InvalidParam ∷ []) }
     ensures allow_of_identity_63 { failing_act running (Allow 63) ≡ [] }
     ensures allow_of_identity_64 { failing_act running (Allow 64) ≡ answers (InvalidParam ∷ []) }
-    ensures allows { map (λ id. has id (tvm_after_act (with_tvm (λ tvm. record tvm { allowed = 5 ∷ [] })) (Allow 7)).allowed) (5 ∷ 6 ∷ 7 ∷ [])
+    ensures allows { map (λ id. has id (tvm_after_act (with_first_tvm (λ tvm. record tvm { allowed = 5 ∷ [] })) (Allow 7)).allowed) (5 ∷ 6 ∷ 7 ∷ [])
         ≡ true ∷ false ∷ true ∷ [] }
     ensures deny_of_nothing { failing_act running (Deny 0) ≡ answers (InvalidParam ∷ []) }
     ensures deny_of_identity_63 { failing_act running (Deny 63) ≡ [] }
     ensures deny_of_identity_64 { failing_act running (Deny 64) ≡ answers (InvalidParam ∷ []) }
-    ensures denies { (tvm_after_act (with_tvm (λ tvm. record tvm { allowed = 5 ∷ 7 ∷ [] })) (Deny 5)).allowed ≡ 7 ∷ [] }
+    ensures denies { (tvm_after_act (with_first_tvm (λ tvm. record tvm { allowed = 5 ∷ 7 ∷ [] })) (Deny 5)).allowed ≡ 7 ∷ [] }
     ensures allows_none_at_first { tenant.allowed ≡ [] }
     ensures other { failing_act running Other ≡ answers (NotSupported ∷ []) }
-    ensures told_not_supported { answered running 8 9 Other ≡ record first_cpu { x = asking (2 ^ 64 - 2) 0 0 0; pc = 65540; fuel = 2 } }
-    ensures told_invalid { answered running 8 9 Extend ≡ record first_cpu { x = asking (2 ^ 64 - 3) 0 0 0; pc = 65540; fuel = 2 } }
-    ensures told_done { answered running 8 9 (Allow 5) ≡ record first_cpu { x = asking 0 0 0 0; pc = 65540; fuel = 2 } }
+    ensures told_not_supported { vcpu_after running 8 9 Other ≡ record first_cpu { x = asking (2 ^ 64 - 2) 0 0 0; pc = 65540; fuel = 2 } }
+    ensures told_invalid { vcpu_after running 8 9 Extend ≡ record first_cpu { x = asking (2 ^ 64 - 3) 0 0 0; pc = 65540; fuel = 2 } }
+    ensures told_done { vcpu_after running 8 9 (Allow 5) ≡ record first_cpu { x = asking 0 0 0 0; pc = 65540; fuel = 2 } }
     ensures asks_to_share { asked_act (asking 8 9 0 0x434F5647) ≡ Share 8 9 }
     ensures asks_to_unshare { asked_act (asking 8 9 1 0x434F5647) ≡ Unshare 8 9 }
     ensures asks_to_extend { asked_act (asking 8 9 2 0x434F5647) ≡ Extend }
@@ -139,7 +139,7 @@ pub fn worked_instructions()
     ensures breaks { doing 0x00100073 ≡ Traps 3 }
     ensures decodes_nothing { doing 0 ≡ Traps 2 }
     ensures asks { doing 0x00000073 ≡ Asks Other }
-    ensures waits_unbound { deed_of (record (fetching 0x10500073) { file = signalled true }) ≡ Waits }
+    ensures waits_unbound { deed_of (record (fetched_vcpu 0x10500073) { file = signalled true }) ≡ Waits }
     ensures waits_without_delivery { doing_with (signalled false) 0x10500073 ≡ Waits }
     ensures wakes { doing_with (signalled true) 0x10500073 ≡ Executes 0 0 0x10004 (signalled true) }
     ensures waits_with_nothing_pending { doing_with (record empty_file { delivery = true }) 0x10500073 ≡ Waits }

@@ -13,7 +13,7 @@ ghost use Rattle.cove_model.specs.HostCalls.{ForgetsAll, ForgetsGuests, Keeps, r
 ghost use Rattle.cove_model.specs.Owners.{AsData, AsRoot, AsState, AsTable, AsVcpu, Converting, Free, Given, Host, is_free, zeros};
 ghost use Rattle.cove_model.specs.States.{new_cpu, on_tvm};
 ghost use Rattle.cove_model.specs.Tvms.{Begun, Blocked, HostPage, new_tvm, NotBegun, OwnPage, Present};
-ghost use Rattle.cove_model.specs.WorkedRows.{after_call, all_free, answer, answers, bound, bound_so, cpu_after, crowded, failing, far, filed, joined_by, mapped_early, mapping_after, neighbours, page_after, pending_nine, stray, tvm_after, unmapped, waiting_so, with_cpu, with_page, with_tvm, worded};
+ghost use Rattle.cove_model.specs.WorkedRows.{after_call, all_free, answer, answers, bound, bound_so, cpu_after, crowded, failing, far, filed, joined_by, mapped_early, mapping_after, neighbours, page_after, pending_nine, stray, tvm_after, unmapped, waiting_so, with_cpu, with_first_tvm, with_page, worded};
 
 /// Pages that go to the monitor and come back.
 pub fn worked_conversions()
@@ -81,7 +81,7 @@ pub fn worked_lives()
     ensures region_before_another { failing building (Region 1 0xf000 0x1000) ≡ [] }
     ensures region_behind_another { failing building (Region 1 0x15000 0x1000) ≡ [] }
     ensures ninth_region { failing (on_tvm 1 crowded building) (Region 1 0x20000 0x1000) ≡ answers (Failed ∷ []) }
-    ensures region_in_order { failing (with_tvm crowded) (Region 1 0x14001 0x1001)
+    ensures region_in_order { failing (with_first_tvm crowded) (Region 1 0x14001 0x1001)
         ≡ answers (Denied ∷ InvalidAddress ∷ InvalidAddress ∷ InvalidAddress ∷ Failed ∷ []) }
     ensures adds_a_region { (tvm_after building (Region 1 0x20000 0x3000)).regions
         ≡ record { first = 16; count = 5 } ∷ record { first = 32; count = 3 } ∷ [] }
@@ -149,7 +149,7 @@ pub fn worked_mappings()
     ensures measured_without_a_table { failing (on_tvm 1 far building) (Measured 1 0x8000 0xa000 1 0x200000) ≡ answer Failed 1 ∷ [] }
     ensures measured_without_tables { failing (on_tvm 1 (λ tvm. record (new_tvm 1) { regions = tvm.regions }) building) (Measured 1 0x8000 0xa000 1 0x10000)
         ≡ answer Failed 2 ∷ [] }
-    ensures measured_in_order { failing (with_tvm stray) (Measured 1 0xa001 0xb001 17 0x200001)
+    ensures measured_in_order { failing (with_first_tvm stray) (Measured 1 0xa001 0xb001 17 0x200001)
         ≡ answers (Denied ∷ InvalidParam ∷ replicate 8 InvalidAddress ++ AlreadyAvailable ∷ []) ++ answer Failed 1 ∷ [] }
     ensures measures { tvm_after worded (Measured 1 0x8000 0xa000 2 0x10000) ≡ record tenant {
       runnable = false;
@@ -167,7 +167,7 @@ pub fn worked_mappings()
     ensures zero_of_a_page_of_the_hosts { failing running (Zero 1 0x8000 1 0x14000) ≡ answers (InvalidAddress ∷ []) }
     ensures zero_at_a_shared_page { failing unmapped (Zero 1 0xa000 1 0x12000) ≡ answers (InvalidAddress ∷ []) }
     ensures zero_twice { failing running (Zero 1 0xa000 1 0x10000) ≡ answers (AlreadyAvailable ∷ []) }
-    ensures zero_without_a_table { failing (with_tvm far) (Zero 1 0xa000 1 0x200000) ≡ answer Failed 1 ∷ [] }
+    ensures zero_without_a_table { failing (with_first_tvm far) (Zero 1 0xa000 1 0x200000) ≡ answer Failed 1 ∷ [] }
     ensures zero_in_order { failing (on_tvm 1 stray building) (Zero 1 0xb001 17 0x200001)
         ≡ answers (Denied ∷ InvalidParam ∷ replicate 5 InvalidAddress ++ AlreadyAvailable ∷ []) ++ answer Failed 1 ∷ [] }
     ensures zeroes { tvm_after running (Zero 1 0xa000 1 0x14000) ≡ record tenant { mappings = tenant.mappings ++ mapped 20 (OwnPage 10 zeros) Present ∷ [] } }
@@ -182,10 +182,10 @@ pub fn worked_mappings()
     ensures shared_of_a_free_page { failing unmapped (Shared 1 0xa000 1 0x12000) ≡ answers (InvalidAddress ∷ []) }
     ensures shared_at_a_private_page { failing unmapped (Shared 1 0x8000 1 0x10000) ≡ answers (InvalidAddress ∷ []) }
     ensures shared_twice { failing running (Shared 1 0x8000 1 0x13000) ≡ answers (AlreadyAvailable ∷ []) }
-    ensures shared_without_a_table { failing (with_tvm (λ tvm. record (far tvm) { shared = 512 ∷ [] })) (Shared 1 0x8000 1 0x200000) ≡ answer Failed 1 ∷ [] }
+    ensures shared_without_a_table { failing (with_first_tvm (λ tvm. record (far tvm) { shared = 512 ∷ [] })) (Shared 1 0x8000 1 0x200000) ≡ answer Failed 1 ∷ [] }
     ensures shared_in_order { failing (on_tvm 1 stray building) (Shared 1 0xa001 17 0x200001)
         ≡ answers (Denied ∷ InvalidParam ∷ replicate 5 InvalidAddress ++ AlreadyAvailable ∷ []) ++ answer Failed 1 ∷ [] }
-    ensures shared_of_a_shared_page { failing (with_tvm (λ tvm. record tvm { mappings = mapped 19 (HostPage 7) Present ∷ [] })) (Shared 1 0x7000 1 0x12000) ≡ [] }
+    ensures shared_of_a_shared_page { failing (with_first_tvm (λ tvm. record tvm { mappings = mapped 19 (HostPage 7) Present ∷ [] })) (Shared 1 0x7000 1 0x12000) ≡ [] }
     ensures shares { tvm_after unmapped (Shared 1 0x8000 2 0x12000) ≡ record tenant {
       mappings = mapped 18 (HostPage 8) Present ∷ mapped 19 (HostPage 9) Present ∷ [];
     } }
@@ -207,8 +207,8 @@ pub fn worked_blockings()
     ensures invalidates_no_other { mapping_after running (Invalidate 1 0x10000 1) 19 ≡ Some (mapped 19 (HostPage 7) Present) }
     ensures fence_of_no_tvm { failing running (TvmFence 9) ≡ answers (InvalidParam ∷ Denied ∷ []) }
     ensures fence_before_finalize { failing building (TvmFence 1) ≡ answers (Denied ∷ []) }
-    ensures fence_while_two_are_inside { failing (with_tvm (λ tvm. record tvm { yet = 0 ∷ 1 ∷ [] })) (TvmFence 1) ≡ answer AlreadyStarted 0 ∷ [] }
-    ensures fence_while_one_is_inside { failing (with_tvm (λ tvm. record tvm { yet = 1 ∷ [] })) (TvmFence 1) ≡ answer AlreadyStarted 1 ∷ [] }
+    ensures fence_while_two_are_inside { failing (with_first_tvm (λ tvm. record tvm { yet = 0 ∷ 1 ∷ [] })) (TvmFence 1) ≡ answer AlreadyStarted 0 ∷ [] }
+    ensures fence_while_one_is_inside { failing (with_first_tvm (λ tvm. record tvm { yet = 1 ∷ [] })) (TvmFence 1) ≡ answer AlreadyStarted 1 ∷ [] }
     ensures fence_in_order { failing (on_tvm 1 (λ tvm. record tvm { yet = 1 ∷ [] }) building) (TvmFence 1)
         ≡ answer Denied 0 ∷ answer AlreadyStarted 1 ∷ [] }
     ensures fence_with_a_hart_inside { failing running (TvmFence 1) ≡ [] }
@@ -314,12 +314,12 @@ pub fn worked_bindings()
         ≡ record (new_cpu 1) { file = pending_nine } }
     ensures its_file_is_not_taken { failing (after_call (bound_so (Begun (Some []))) (Unbound 1 1)) (Bind 1 1 0 1) ≡ [] }
     ensures its_file_is_not_taken_once_destroyed { failing (after_call (on_tvm 1 (λ tvm. record tvm { cpus = bound 0 1 NotBegun (new_cpu 0) ∷ [] }) (filed neighbours)) (Destroy 1)) (Bind 2 1 0 1) ≡ [] }
-    ensures inject_into_no_tvm { failing (with_tvm (λ tvm. record tvm { allowed = 5 ∷ [] })) (Inject 9 1 5) ≡ answers (InvalidParam ∷ InvalidParam ∷ Denied ∷ []) }
-    ensures inject_into_no_vcpu { failing (with_tvm (λ tvm. record tvm { allowed = 5 ∷ [] })) (Inject 1 2 5) ≡ answers (InvalidParam ∷ []) }
-    ensures inject_of_nothing { failing (with_tvm (λ tvm. record tvm { allowed = 0 ∷ [] })) (Inject 1 1 0) ≡ answers (InvalidParam ∷ []) }
-    ensures inject_of_identity_64 { failing (with_tvm (λ tvm. record tvm { allowed = 64 ∷ [] })) (Inject 1 1 64) ≡ answers (InvalidParam ∷ []) }
-    ensures inject_of_the_last_identity { failing (with_tvm (λ tvm. record tvm { allowed = 63 ∷ [] })) (Inject 1 1 63) ≡ [] }
-    ensures inject_of_what_is_not_allowed { failing (with_tvm (λ tvm. record tvm { allowed = 5 ∷ [] })) (Inject 1 1 6) ≡ answers (Denied ∷ []) }
+    ensures inject_into_no_tvm { failing (with_first_tvm (λ tvm. record tvm { allowed = 5 ∷ [] })) (Inject 9 1 5) ≡ answers (InvalidParam ∷ InvalidParam ∷ Denied ∷ []) }
+    ensures inject_into_no_vcpu { failing (with_first_tvm (λ tvm. record tvm { allowed = 5 ∷ [] })) (Inject 1 2 5) ≡ answers (InvalidParam ∷ []) }
+    ensures inject_of_nothing { failing (with_first_tvm (λ tvm. record tvm { allowed = 0 ∷ [] })) (Inject 1 1 0) ≡ answers (InvalidParam ∷ []) }
+    ensures inject_of_identity_64 { failing (with_first_tvm (λ tvm. record tvm { allowed = 64 ∷ [] })) (Inject 1 1 64) ≡ answers (InvalidParam ∷ []) }
+    ensures inject_of_the_last_identity { failing (with_first_tvm (λ tvm. record tvm { allowed = 63 ∷ [] })) (Inject 1 1 63) ≡ [] }
+    ensures inject_of_what_is_not_allowed { failing (with_first_tvm (λ tvm. record tvm { allowed = 5 ∷ [] })) (Inject 1 1 6) ≡ answers (Denied ∷ []) }
     ensures inject_in_order { failing running (Inject 1 1 64) ≡ answers (InvalidParam ∷ Denied ∷ []) }
     ensures injects { cpu_after (bound_so NotBegun) (Inject 1 1 5) 1 ≡ bound 0 1 NotBegun (record (new_cpu 1) { file = raised empty_file 5 }) }
     ensures injects_unbound { cpu_after running (Inject 1 1 5) 1 ≡ record (new_cpu 1) { file = raised empty_file 5 } }

@@ -12,11 +12,11 @@ state_word (Given tvm role) = given tvm.0 role
 state_word Released = released
 
 -- the numbers of a state are within their limits
-abbrev pub IsWithin : PageState → Type 0
-IsWithin (Host maps) = maps < 2 ^ 32
-IsWithin (Converting since) = since < 2 ^ 32
-IsWithin (Given tvm role) = (1 ≤ tvm.0) × (tvm.0 ≤ TVM_LIMIT)
-IsWithin Released = Unit {0}
+abbrev pub IsBoundedState : PageState → Type 0
+IsBoundedState (Host maps) = maps < 2 ^ 32
+IsBoundedState (Converting since) = since < 2 ^ 32
+IsBoundedState (Given tvm role) = (1 ≤ tvm.0) × (tvm.0 ≤ TVM_LIMIT)
+IsBoundedState Released = Unit {0}
 
 -- a fact of the page word of each of n pages
 abbrev pub EveryPage : (P : ℕ → Type 0) (words : List ℕ) (first n : ℕ) → Type 0
@@ -32,4 +32,4 @@ WordsTellStates = (s t : PageState) → state_word s ≡ state_word t → s ≡ 
 
 -- the words of states within the limits are the page words
 abbrev pub StatesHaveWords : Type 0
-StatesHaveWords = (s : PageState) → IsWithin s → IsPageWord (state_word s)
+StatesHaveWords = (s : PageState) → IsBoundedState s → IsPageWord (state_word s)

@@ -3,7 +3,7 @@ ghost use Rattle.cove_base.specs.PageWords.{IsPageWord, IsHostWord, IsMappedWord
 ghost use Rattle.cove_base.specs.Places.{page_word};
 ghost use Rattle.cove_base.specs.Stores.{stored, AllAllowed, fills};
 ghost use Rattle.cove_base.specs.Unchanged.{Unchanged};
-ghost use Rattle.cove_owner.specs.States.{state_word, IsWithin, EveryPage, SomePage};
+ghost use Rattle.cove_owner.specs.States.{state_word, IsBoundedState, EveryPage, SomePage};
 
 use crate::states::{PageState, decode, encode};
 use cove_base::{Page, PageRange, Words, page_word};
@@ -14,7 +14,7 @@ pub fn state<W: Words>(w: &mut W, page: Page) -> PageState
     requires limit { page.0 < 2 ^ 16 }
     requires word { IsPageWord (slice_index (W.words w.old) page.0) }
     ensures state { state_word result ≡ slice_index (W.words w.old) page.0 }
-    ensures within { IsWithin result }
+    ensures within { IsBoundedState result }
     ensures unchanged { Unchanged W.words W.clean W.guard w.old w.new }
 {
     decode(w.get(page_word(page)))
@@ -24,7 +24,7 @@ pub fn state<W: Words>(w: &mut W, page: Page) -> PageState
 pub fn set_state<W: Words>(w: &mut W, page: Page, s: PageState)
     requires place { page.0 < length (W.words w.old) }
     requires limit { page.0 < 2 ^ 16 }
-    requires within { IsWithin s }
+    requires within { IsBoundedState s }
     requires allowed { AllAllowed (W.allows (W.guard w.old)) (W.words w.old)
         ((page_word page.0, state_word s) ∷ []) }
     ensures words { W.words w.new ≡ stored (W.words w.old) ((page_word page.0, state_word s) ∷ []) }
@@ -37,7 +37,7 @@ pub fn set_state<W: Words>(w: &mut W, page: Page, s: PageState)
 pub fn set_all<W: Words>(w: &mut W, range: PageRange, s: PageState)
     requires places { range.first.0 + range.count ≤ length (W.words w.old) }
     requires limit { range.first.0 + range.count ≤ 2 ^ 16 }
-    requires within { IsWithin s }
+    requires within { IsBoundedState s }
     requires allowed { AllAllowed (W.allows (W.guard w.old)) (W.words w.old)
         (fills (page_word range.first.0) range.count (state_word s)) }
     ensures words { W.words w.new

@@ -1,6 +1,6 @@
 ghost use Rattle.std.specs.Prelude.{◌≡◌, ◌<◌};
 ghost use Rattle.cove_base.specs.PageWords.{role_number, IsPageWord};
-ghost use Rattle.cove_owner.specs.States.{state_word, IsWithin, WordsTellStates, StatesHaveWords};
+ghost use Rattle.cove_owner.specs.States.{state_word, IsBoundedState, WordsTellStates, StatesHaveWords};
 
 use cove_base::{Role, TvmId};
 
@@ -19,7 +19,7 @@ pub enum PageState {
 
 /// The page word of a state.
 pub fn encode(state: PageState) -> u64
-    requires { IsWithin state }
+    requires { IsBoundedState state }
     ensures { result ≡ state_word state }
 {
     match state {
@@ -34,7 +34,7 @@ pub fn encode(state: PageState) -> u64
 pub fn decode(word: u64) -> PageState
     requires { IsPageWord word }
     ensures word { state_word result ≡ word }
-    ensures within { IsWithin result }
+    ensures within { IsBoundedState result }
 {
     match word % 8 {
         0 => PageState::Host {

@@ -11,7 +11,7 @@ use Rattle.cove_base.specs.declared.limits.TheConstants.{REGION_LIMIT, SHARED_RU
 use Rattle.cove_region.specs.declared.areas.Area.{Area}
 use Rattle.cove_region.specs.declared.kinds.AreaKind.{AreaKind}
 use Rattle.cove_region.specs.declared.kinds.AreaKind.TheVariants.{Outside, Private, Shared}
-use Rattle.cove_region.specs.GuestMaps.{AreAll, AreMade, AreOfOneRegion, FormTooManyRows, covers, has_guest, holds, meets, shared_with, shared_without}
+use Rattle.cove_region.specs.GuestMaps.{AreAll, AreMade, AreOfOneRegion, FormTooManyRows, covers, has_guest, has_shared_with, has_shared_without, holds, meets}
 use Rattle.cove_region.specs.Rows.{AreApart, AreDisjoint, AreKept, AreRows, HasPages, adjoin, begins_at, ends_at, rows_cut}
 use Rattle.cove_region.proofs.AreaLemmas.{All-push, all_fail, has_from, has_means, holds_means, meets_means, some_place}
 use Rattle.cove_region.proofs.RowLemmas.{covers-push, few_enough, form_rows, form_same, free_rows, joins_none_after, joins_none_before, rows_apart, rows_push}
@@ -211,22 +211,22 @@ share_kept regions rows new pages kept held lawful few joined = record {
     within g false false row page either = absurd (both_ways false refl either)
 
 pub share_full : (regions rows : List Area) (pages : Area) → AreKept regions rows → HasPages pages → list_any (meets pages) rows ≡ false
-    → adjoin rows pages ≡ false → length rows ≡ SHARED_RUN_LIMIT → FormTooManyRows (shared_with (record { regions = regions; rows = rows }) pages)
+    → adjoin rows pages ≡ false → length rows ≡ SHARED_RUN_LIMIT → FormTooManyRows (has_shared_with (record { regions = regions; rows = rows }) pages)
 share_full regions rows pages kept some free alone full =
     let parts = or_parts (list_any (ends_at pages.first) rows) (list_any (begins_at pages.end) rows) alone in
     let before = joins_none_before rows pages kept.maximal some free parts.0 in
     let after = joins_none_after rows pages kept.maximal some before.apart parts.1 in
     let lawful : AreRows (rows ++ pages ∷ []) = rows_push rows pages kept.maximal some after.apart in (
       length (rows ++ pages ∷ []),
-      form_same (covers (rows ++ pages ∷ [])) (shared_with (record { regions = regions; rows = rows }) pages) _ (covers-push rows pages) (form_rows (rows ++ pages ∷ []) lawful),
+      form_same (covers (rows ++ pages ∷ [])) (has_shared_with (record { regions = regions; rows = rows }) pages) _ (covers-push rows pages) (form_rows (rows ++ pages ∷ []) lawful),
       (let n = length-append rows (pages ∷ []) in omega arith),
     )
 
 pub share_few : (regions rows new : List Area) (pages : Area) → AreRows new → length new ≤ SHARED_RUN_LIMIT
-    → ((g : ℕ) → covers new g ≡ (covers rows g || has_guest g pages)) → FormTooManyRows (shared_with (record { regions = regions; rows = rows }) pages) → ⊥
+    → ((g : ℕ) → covers new g ≡ (covers rows g || has_guest g pages)) → FormTooManyRows (has_shared_with (record { regions = regions; rows = rows }) pages) → ⊥
 share_few regions rows new pages lawful few joined =
-    few_enough (shared_with (record { regions = regions; rows = rows }) pages) (length new)
-    (form_same (covers new) (shared_with (record { regions = regions; rows = rows }) pages) (length new) joined (form_rows new lawful)) few
+    few_enough (has_shared_with (record { regions = regions; rows = rows }) pages) (length new)
+    (form_same (covers new) (has_shared_with (record { regions = regions; rows = rows }) pages) (length new) joined (form_rows new lawful)) few
 
 -- ---- unshare
 
@@ -287,18 +287,18 @@ unshare_kept regions rows new pages kept lawful few cut = record {
 
 pub unshare_full : (regions rows : List Area) (place : ℕ) (d pages : Area) → AreKept regions rows → HasPages pages → place < length rows
     → holds pages (get_or rows place d) ≡ true → length rows ≡ SHARED_RUN_LIMIT → (get_or rows place d).first < pages.first → pages.end < (get_or rows place d).end
-    → FormTooManyRows (shared_without (record { regions = regions; rows = rows }) pages)
+    → FormTooManyRows (has_shared_without (record { regions = regions; rows = rows }) pages)
 unshare_full regions rows place d pages kept some within held full before after =
     let row : Area = get_or rows place d in
     let n = cut_full rows place row pages within before after in (
       length (rows_cut rows place row pages),
-      form_same (covers (rows_cut rows place row pages)) (shared_without (record { regions = regions; rows = rows }) pages) _
+      form_same (covers (rows_cut rows place row pages)) (has_shared_without (record { regions = regions; rows = rows }) pages) _
           (covers-cut rows place d pages kept.maximal within held some) (form_rows (rows_cut rows place row pages) (cut_rows rows place d pages kept.maximal within held some)),
       omega arith,
     )
 
 pub unshare_few : (regions rows new : List Area) (pages : Area) → AreRows new → length new ≤ SHARED_RUN_LIMIT
-    → ((g : ℕ) → covers new g ≡ (covers rows g && not (has_guest g pages))) → FormTooManyRows (shared_without (record { regions = regions; rows = rows }) pages) → ⊥
+    → ((g : ℕ) → covers new g ≡ (covers rows g && not (has_guest g pages))) → FormTooManyRows (has_shared_without (record { regions = regions; rows = rows }) pages) → ⊥
 unshare_few regions rows new pages lawful few cut =
-    few_enough (shared_without (record { regions = regions; rows = rows }) pages) (length new)
-    (form_same (covers new) (shared_without (record { regions = regions; rows = rows }) pages) (length new) cut (form_rows new lawful)) few
+    few_enough (has_shared_without (record { regions = regions; rows = rows }) pages) (length new)
+    (form_same (covers new) (has_shared_without (record { regions = regions; rows = rows }) pages) (length new) cut (form_rows new lawful)) few

@@ -7,7 +7,7 @@ use Rattle.cove_region.proofs.CutLemmas.{covers-cut, cut_rows}
 use Rattle.cove_region.proofs.JoinLemmas.{carried}
 use Rattle.cove_region.proofs.KindLemmas.{share_few, share_full, share_inside, share_taken, unshare_few, unshare_full, unshare_inside, unshare_kept, unshare_made, unshare_outside}
 use Rattle.cove_region.proofs.RowLemmas.{position_none}
-use Rattle.cove_region.specs.GuestMaps.{AreMade, AreOfOneRegion, FormTooManyRows, GuestMap, covers, has_guest, holds, meets, shared_with, shared_without}
+use Rattle.cove_region.specs.GuestMaps.{AreMade, AreOfOneRegion, FormTooManyRows, GuestMap, covers, has_guest, has_shared_with, has_shared_without, holds, meets}
 use Rattle.cove_region.specs.Rows.{AreKept, AreRows, HasPages, adjoin, rows_cut}
 use Rattle.cove_region.specs.declared.areas.Area.{Area}
 use Rattle.cove_region.specs.declared.kinds.AreaKind.TheVariants.{Private, Shared}
@@ -27,8 +27,8 @@ module _ (pages : Area) {asked : Area} {regions rows : List Area} {view : GuestM
     pub were_private : AreOfOneRegion view Private asked
     were_private = tells (λ m p. AreOfOneRegion m Private p) (share_inside regions rows pages held free)
 
-    pub too_many_with : AreKept regions rows → HasPages asked → adjoin rows pages ≡ false → length rows ≡ SHARED_RUN_LIMIT → FormTooManyRows (shared_with view asked)
-    too_many_with kept some alone full = tells (λ m p. FormTooManyRows (shared_with m p)) (share_full regions rows pages kept (has_pages some) free alone full)
+    pub too_many_with : AreKept regions rows → HasPages asked → adjoin rows pages ≡ false → length rows ≡ SHARED_RUN_LIMIT → FormTooManyRows (has_shared_with view asked)
+    too_many_with kept some alone full = tells (λ m p. FormTooManyRows (has_shared_with m p)) (share_full regions rows pages kept (has_pages some) free alone full)
 
   -- pages that no region holds, or that some row has, were not private
   pub none_held : list_any (holds pages) regions ≡ false → AreOfOneRegion view Private asked → ⊥
@@ -38,8 +38,8 @@ module _ (pages : Area) {asked : Area} {regions rows : List Area} {view : GuestM
   were_taken kept some met = tells (λ m p. AreOfOneRegion m Private p → ⊥) (share_taken regions rows pages kept (has_pages some) met)
 
   pub few_with : (new : List Area) → AreRows new → length new ≤ SHARED_RUN_LIMIT → ((g : ℕ) → covers new g ≡ (covers rows g || has_guest g pages))
-      → FormTooManyRows (shared_with view asked) → ⊥
-  few_with new lawful few joined = tells (λ m p. FormTooManyRows (shared_with m p) → ⊥) (share_few regions rows new pages lawful few joined)
+      → FormTooManyRows (has_shared_with view asked) → ⊥
+  few_with new lawful few joined = tells (λ m p. FormTooManyRows (has_shared_with m p) → ⊥) (share_few regions rows new pages lawful few joined)
 
   -- ---- unshare
 
@@ -55,10 +55,10 @@ module _ (pages : Area) {asked : Area} {regions rows : List Area} {view : GuestM
 
     module _ (kept : AreKept regions rows) (some : HasPages asked) where
       pub too_many_without : (d : Area) → length rows ≡ SHARED_RUN_LIMIT → (get_or rows place d).first < pages.first → pages.end < (get_or rows place d).end
-          → FormTooManyRows (shared_without view asked)
+          → FormTooManyRows (has_shared_without view asked)
       too_many_without d full before after =
           let hit = position-Some (holds pages) rows place d found in
-          tells (λ m p. FormTooManyRows (shared_without m p)) (unshare_full regions rows place d pages kept (has_pages some) hit.0 hit.1 full before after)
+          tells (λ m p. FormTooManyRows (has_shared_without m p)) (unshare_full regions rows place d pages kept (has_pages some) hit.0 hit.1 full before after)
 
       -- the rows without the pages
       module _ (new : List Area) (cut : new ≡ rows_cut rows place (get_or rows place pages) pages) (few : length new ≤ SHARED_RUN_LIMIT) where
@@ -75,8 +75,8 @@ module _ (pages : Area) {asked : Area} {regions rows : List Area} {view : GuestM
         pub kept_without : AreKept regions new
         kept_without = unshare_kept regions rows new pages kept cut_lawful few cut_covers
 
-        pub few_without : FormTooManyRows (shared_without view asked) → ⊥
-        few_without = tells (λ m p. FormTooManyRows (shared_without m p) → ⊥) (unshare_few regions rows new pages cut_lawful few cut_covers)
+        pub few_without : FormTooManyRows (has_shared_without view asked) → ⊥
+        few_without = tells (λ m p. FormTooManyRows (has_shared_without m p) → ⊥) (unshare_few regions rows new pages cut_lawful few cut_covers)
 
         pub made_private : AreMade Private asked view (record { regions = regions; rows = new })
         made_private =

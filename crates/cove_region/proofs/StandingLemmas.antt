@@ -13,7 +13,7 @@ use Rattle.cove_model.specs.Tvms.{Area as ModelArea, Tvm}
 use Rattle.cove_region.specs.declared.areas.Area.{Area}
 use Rattle.cove_region.specs.declared.kinds.AreaKind.{AreaKind}
 use Rattle.cove_region.specs.declared.kinds.AreaKind.TheVariants.{Outside, Private, Shared}
-use Rattle.cove_region.specs.GuestMaps.{AreAll, AreMade, AreOfOneRegion, FormRows, FormTooManyRows, GuestMap, covers, has_guest, holds, is_shared, kind_of, meets, pages_from, shared_with, shared_without}
+use Rattle.cove_region.specs.GuestMaps.{AreAll, AreMade, AreOfOneRegion, FormRows, FormTooManyRows, GuestMap, covers, has_guest, has_shared, has_shared_with, has_shared_without, holds, kind_of, meets, pages_from}
 use Rattle.cove_region.specs.Rows.{HasPages}
 use Rattle.cove_region.specs.Standing.{AddedStand, AllPrivateAgrees, AllSharedAgrees, NoneStand, OutsideAgrees, OverlapAgrees, PrivateAgrees, RowsAgree, RowsWithAgree, RowsWithoutAgree, SharedAgrees, SharedStand, StandFor, UnsharedStand, area_of, pages_at}
 use Rattle.cove_region.proofs.AreaLemmas.{All-push, has_from, has_means}
@@ -27,19 +27,19 @@ any-areas : (p : ModelArea → Bool) (q : Area → Bool) → ((a : ModelArea) �
 any-areas p q same [] = refl
 any-areas p q same (a ∷ areas) = ap (λ b. b || list_any q (map area_of areas)) (same a) ∙ ap (λ b. p a || b) (any-areas p q same areas)
 
-has-area : (g : ℕ) (a : ModelArea) → has_guest g (area_of a) ≡ model.holds g 1 a
+has-area : (g : ℕ) (a : ModelArea) → has_guest g (area_of a) ≡ model.has_run g 1 a
 has-area g a = grind (arith, nat_tests)
 
-covers-stand : (guests : GuestMap) (tvm : Tvm) → StandFor guests tvm → (g : ℕ) → covers guests.regions g ≡ list_any (model.holds g 1) tvm.regions
-covers-stand guests tvm s g = ap (λ areas. covers areas g) s.regions ∙ any-areas (model.holds g 1) (has_guest g) (has-area g) tvm.regions
+covers-stand : (guests : GuestMap) (tvm : Tvm) → StandFor guests tvm → (g : ℕ) → covers guests.regions g ≡ list_any (model.has_run g 1) tvm.regions
+covers-stand guests tvm s g = ap (λ areas. covers areas g) s.regions ∙ any-areas (model.has_run g 1) (has_guest g) (has-area g) tvm.regions
 
-pub meets-stand : (guests : GuestMap) (tvm : Tvm) → StandFor guests tvm → (first n : ℕ) → list_any (meets (pages_from first n)) guests.regions ≡ list_any (model.meets first n) tvm.regions
+pub meets-stand : (guests : GuestMap) (tvm : Tvm) → StandFor guests tvm → (first n : ℕ) → list_any (meets (pages_from first n)) guests.regions ≡ list_any (model.meets_run first n) tvm.regions
 meets-stand guests tvm s first n =
-    ap (list_any (meets (pages_from first n))) s.regions ∙ any-areas (model.meets first n) (meets (pages_from first n)) (λ a. refl) tvm.regions
+    ap (list_any (meets (pages_from first n))) s.regions ∙ any-areas (model.meets_run first n) (meets (pages_from first n)) (λ a. refl) tvm.regions
 
-holds-stand : (guests : GuestMap) (tvm : Tvm) → StandFor guests tvm → (gpa n : ℕ) → list_any (holds (pages_at gpa n)) guests.regions ≡ list_any (model.holds (gpa / 4096) n) tvm.regions
+holds-stand : (guests : GuestMap) (tvm : Tvm) → StandFor guests tvm → (gpa n : ℕ) → list_any (holds (pages_at gpa n)) guests.regions ≡ list_any (model.has_run (gpa / 4096) n) tvm.regions
 holds-stand guests tvm s gpa n =
-    ap (list_any (holds (pages_at gpa n))) s.regions ∙ any-areas (model.holds (gpa / 4096) n) (holds (pages_at gpa n)) (λ a. refl) tvm.regions
+    ap (list_any (holds (pages_at gpa n))) s.regions ∙ any-areas (model.has_run (gpa / 4096) n) (holds (pages_at gpa n)) (λ a. refl) tvm.regions
 
 -- ---- kinds, as two tests: shared, in a region
 
@@ -66,26 +66,26 @@ same-test a b c same both = (λ h. sym same ∙ both.0 h, λ h. both.1 (same ∙
 
 pub private-agrees : PrivateAgrees
 private-agrees guests tvm s g =
-    let parts : (covers guests.regions g && not (is_shared guests g)) ≡ model.is_private tvm g =
-    ap (λ b. b && not (is_shared guests g)) (covers-stand guests tvm s g) ∙ ap (λ b. list_any (model.holds g 1) tvm.regions && not b) (s.shared g) in
-    same-test (covers guests.regions g && not (is_shared guests g)) (model.is_private tvm g) true parts (private-kind (is_shared guests g) (covers guests.regions g))
+    let parts : (covers guests.regions g && not (has_shared guests g)) ≡ model.is_private tvm g =
+    ap (λ b. b && not (has_shared guests g)) (covers-stand guests tvm s g) ∙ ap (λ b. list_any (model.has_run g 1) tvm.regions && not b) (s.shared g) in
+    same-test (covers guests.regions g && not (has_shared guests g)) (model.is_private tvm g) true parts (private-kind (has_shared guests g) (covers guests.regions g))
 
 pub shared-agrees : SharedAgrees
 shared-agrees guests tvm s g =
-    same-test (is_shared guests g) (model.is_shared tvm g) true (s.shared g) (shared-kind (is_shared guests g) (covers guests.regions g))
+    same-test (has_shared guests g) (model.is_shared tvm g) true (s.shared g) (shared-kind (has_shared guests g) (covers guests.regions g))
 
 pub outside-agrees : OutsideAgrees
 outside-agrees guests tvm s g =
-    same-test (covers guests.regions g) (list_any (model.holds g 1) tvm.regions) false (covers-stand guests tvm s g)
-    (outside-kind (is_shared guests g) (covers guests.regions g) (s.inside g))
+    same-test (covers guests.regions g) (list_any (model.has_run g 1) tvm.regions) false (covers-stand guests tvm s g)
+    (outside-kind (has_shared guests g) (covers guests.regions g) (s.inside g))
 
 -- ---- what a call is refused for
 
 -- guest pages that meet no region are outside
-pub outside-free : (guests : GuestMap) (tvm : Tvm) → StandFor guests tvm → (first n : ℕ) → list_any (model.meets first n) tvm.regions ≡ false
+pub outside-free : (guests : GuestMap) (tvm : Tvm) → StandFor guests tvm → (first n : ℕ) → list_any (model.meets_run first n) tvm.regions ≡ false
     → AreAll guests Outside (pages_from first n)
 outside-free guests tvm s first n free g here =
-    (outside-kind (is_shared guests g) (covers guests.regions g) (s.inside g)).1
+    (outside-kind (has_shared guests g) (covers guests.regions g) (s.inside g)).1
     (free_page (pages_from first n) guests.regions g (meets-stand guests tvm s first n ∙ free) here)
 
 pub overlap-agrees : OverlapAgrees
@@ -99,17 +99,17 @@ overlap-agrees guests tvm s first n some =
       λ meet all.
           let page = met_page pages guests.regions (omega (arith, some)) s.some (met ∙ meet) in
           let g = page.0 in
-          both_ways (covers guests.regions g) ((outside-kind (is_shared guests g) (covers guests.regions g) (s.inside g)).0 (all g page.1)) page.2,
+          both_ways (covers guests.regions g) ((outside-kind (has_shared guests g) (covers guests.regions g) (s.inside g)).0 (all g page.1)) page.2,
     )
 
 all-agree : (guests : GuestMap) (tvm : Tvm) (kind : AreaKind) (test : ℕ → Bool) → StandFor guests tvm → ((g : ℕ) → (kind_of guests g ≡ kind) ↔ (test g ≡ true))
     → (gpa n : ℕ) → AreOfOneRegion guests kind (pages_at gpa n) ↔ (model.are_of_one_region tvm test gpa n ≡ true)
 all-agree guests tvm kind test s same gpa n =
     let held = holds-stand guests tvm s gpa n in (
-      λ all. and_from (list_any (model.holds (gpa / 4096) n) tvm.regions) _ (sym held ∙ all.region)
+      λ all. and_from (list_any (model.has_run (gpa / 4096) n) tvm.regions) _ (sym held ∙ all.region)
           (all-range test (gpa / 4096) n (λ g low high. (same g).0 (all.kinds g (has_from g (pages_at gpa n) low high)))),
       λ e.
-          let parts = and_parts (list_any (model.holds (gpa / 4096) n) tvm.regions) _ e in
+          let parts = and_parts (list_any (model.has_run (gpa / 4096) n) tvm.regions) _ e in
           record {
             region = held ∙ parts.0;
             kinds = λ g here. let m = has_means g (pages_at gpa n) here in (same g).1 (range-all test (gpa / 4096) n parts.1 g m.0 m.1);
@@ -123,7 +123,7 @@ pub all-shared-agrees : AllSharedAgrees
 all-shared-agrees guests tvm s gpa n = all-agree guests tvm Shared (model.is_shared tvm) s (shared-agrees guests tvm s) gpa n
 
 pub rows-agree : RowsAgree
-rows-agree guests tvm s = form-listed (is_shared guests) tvm.shared s.each_once s.shared
+rows-agree guests tvm s = form-listed (has_shared guests) tvm.shared s.each_once s.shared
 
 too-many : (shared : ℕ → Bool) (n : ℕ) → FormRows shared n → FormTooManyRows shared ↔ (SHARED_RUN_LIMIT < n)
 too-many shared n form = (
@@ -132,21 +132,21 @@ too-many shared n form = (
 )
 
 -- the guest pages that are shared then
-has-with : (guests : GuestMap) (tvm : Tvm) → StandFor guests tvm → (gpa n g : ℕ) → shared_with guests (pages_at gpa n) g ≡ owners.has g (model.shared_with tvm gpa n)
+has-with : (guests : GuestMap) (tvm : Tvm) → StandFor guests tvm → (gpa n g : ℕ) → has_shared_with guests (pages_at gpa n) g ≡ owners.has g (model.shared_with tvm gpa n)
 has-with guests tvm s gpa n g =
     ap (λ b. b || has_guest g (pages_at gpa n)) (s.shared g) ∙ ap (λ b. owners.has g tvm.shared || b) (sym (has-range (gpa / 4096) n g))
-    ∙ sym (has-append g tvm.shared (model.guests gpa n))
+    ∙ sym (has-append g tvm.shared (model.page_run gpa n))
 
-has-without : (guests : GuestMap) (tvm : Tvm) → StandFor guests tvm → (gpa n g : ℕ) → shared_without guests (pages_at gpa n) g ≡ owners.has g (model.shared_without tvm gpa n)
+has-without : (guests : GuestMap) (tvm : Tvm) → StandFor guests tvm → (gpa n g : ℕ) → has_shared_without guests (pages_at gpa n) g ≡ owners.has g (model.shared_without tvm gpa n)
 has-without guests tvm s gpa n g =
     ap (λ b. b && not (has_guest g (pages_at gpa n))) (s.shared g) ∙ sym (has-filter (λ k. not (model.is_among gpa n k)) g tvm.shared)
 
 distinct-with : (tvm : Tvm) → AreDistinct tvm.shared → (gpa n : ℕ) → model.are_of_one_region tvm (model.is_private tvm) gpa n ≡ true → AreDistinct (model.shared_with tvm gpa n)
 distinct-with tvm once gpa n all =
-    let parts = and_parts (list_any (model.holds (gpa / 4096) n) tvm.regions) _ all in
-    distinct-append tvm.shared (model.guests gpa n) once (distinct-range (gpa / 4096) n) (λ k there.
+    let parts = and_parts (list_any (model.has_run (gpa / 4096) n) tvm.regions) _ all in
+    distinct-append tvm.shared (model.page_run gpa n) once (distinct-range (gpa / 4096) n) (λ k there.
     let m = has_means k (pages_at gpa n) (sym (has-range (gpa / 4096) n k) ∙ there) in
-    let private = and_parts (list_any (model.holds k 1) tvm.regions) _ (range-all (model.is_private tvm) (gpa / 4096) n parts.1 k m.0 m.1) in
+    let private = and_parts (list_any (model.has_run k 1) tvm.regions) _ (range-all (model.is_private tvm) (gpa / 4096) n parts.1 k m.0 m.1) in
     not-true (owners.has k tvm.shared) private.1)
 
 distinct-without : (tvm : Tvm) → AreDistinct tvm.shared → (gpa n : ℕ) → AreDistinct (model.shared_without tvm gpa n)
@@ -154,13 +154,13 @@ distinct-without tvm once gpa n = distinct-filter (λ g. not (model.is_among gpa
 
 pub rows-with-agree : RowsWithAgree
 rows-with-agree guests tvm s gpa n all =
-    too-many (shared_with guests (pages_at gpa n)) (model.row_count (model.shared_with tvm gpa n))
-    (form-listed (shared_with guests (pages_at gpa n)) (model.shared_with tvm gpa n) (distinct-with tvm s.each_once gpa n all) (has-with guests tvm s gpa n))
+    too-many (has_shared_with guests (pages_at gpa n)) (model.row_count (model.shared_with tvm gpa n))
+    (form-listed (has_shared_with guests (pages_at gpa n)) (model.shared_with tvm gpa n) (distinct-with tvm s.each_once gpa n all) (has-with guests tvm s gpa n))
 
 pub rows-without-agree : RowsWithoutAgree
 rows-without-agree guests tvm s gpa n =
-    too-many (shared_without guests (pages_at gpa n)) (model.row_count (model.shared_without tvm gpa n))
-    (form-listed (shared_without guests (pages_at gpa n)) (model.shared_without tvm gpa n) (distinct-without tvm s.each_once gpa n) (has-without guests tvm s gpa n))
+    too-many (has_shared_without guests (pages_at gpa n)) (model.row_count (model.shared_without tvm gpa n))
+    (form-listed (has_shared_without guests (pages_at gpa n)) (model.shared_without tvm gpa n) (distinct-without tvm s.each_once gpa n) (has-without guests tvm s gpa n))
 
 -- ---- what a call leaves
 
@@ -174,37 +174,37 @@ none-stand number = record {
 }
 
 -- which pages are shared, by the kinds that were made
-made-shared : (pages : Area) (old new : GuestMap) → AreMade Shared pages old new → (g : ℕ) → is_shared new g ≡ shared_with old pages g
+made-shared : (pages : Area) (old new : GuestMap) → AreMade Shared pages old new → (g : ℕ) → has_shared new g ≡ has_shared_with old pages g
 made-shared pages old new made g = go (has_guest g pages) (made g)
   where
-    now : (kind_of new g ≡ Shared) ↔ (is_shared new g ≡ true)
-    now = shared-kind (is_shared new g) (covers new.regions g)
+    now : (kind_of new g ≡ Shared) ↔ (has_shared new g ≡ true)
+    now = shared-kind (has_shared new g) (covers new.regions g)
 
-    was : (kind_of old g ≡ Shared) ↔ (is_shared old g ≡ true)
-    was = shared-kind (is_shared old g) (covers old.regions g)
+    was : (kind_of old g ≡ Shared) ↔ (has_shared old g ≡ true)
+    was = shared-kind (has_shared old g) (covers old.regions g)
 
-    go : (b : Bool) → kind_of new g ≡ (if b then Shared else kind_of old g) → is_shared new g ≡ (is_shared old g || b)
-    go true e = now.0 e ∙ sym (or_right (is_shared old g) true refl)
-    go false e = bool_iff (is_shared new g) (is_shared old g || false)
-        (λ h. or_left (is_shared old g) false (was.0 (sym e ∙ now.1 h)))
-        (λ h. elim (or_cases (is_shared old g) false h) [ inl there ↦ now.0 (e ∙ was.1 there) | inr never ↦ absurd (both_ways false refl never) ])
+    go : (b : Bool) → kind_of new g ≡ (if b then Shared else kind_of old g) → has_shared new g ≡ (has_shared old g || b)
+    go true e = now.0 e ∙ sym (or_right (has_shared old g) true refl)
+    go false e = bool_iff (has_shared new g) (has_shared old g || false)
+        (λ h. or_left (has_shared old g) false (was.0 (sym e ∙ now.1 h)))
+        (λ h. elim (or_cases (has_shared old g) false h) [ inl there ↦ now.0 (e ∙ was.1 there) | inr never ↦ absurd (both_ways false refl never) ])
 
-made-private : (pages : Area) (old new : GuestMap) → AreMade Private pages old new → (g : ℕ) → is_shared new g ≡ shared_without old pages g
+made-private : (pages : Area) (old new : GuestMap) → AreMade Private pages old new → (g : ℕ) → has_shared new g ≡ has_shared_without old pages g
 made-private pages old new made g = go (has_guest g pages) (made g)
   where
-    now : (kind_of new g ≡ Shared) ↔ (is_shared new g ≡ true)
-    now = shared-kind (is_shared new g) (covers new.regions g)
+    now : (kind_of new g ≡ Shared) ↔ (has_shared new g ≡ true)
+    now = shared-kind (has_shared new g) (covers new.regions g)
 
-    was : (kind_of old g ≡ Shared) ↔ (is_shared old g ≡ true)
-    was = shared-kind (is_shared old g) (covers old.regions g)
+    was : (kind_of old g ≡ Shared) ↔ (has_shared old g ≡ true)
+    was = shared-kind (has_shared old g) (covers old.regions g)
 
-    go : (b : Bool) → kind_of new g ≡ (if b then Private else kind_of old g) → is_shared new g ≡ (is_shared old g && not b)
-    go true e = bool_iff (is_shared new g) (is_shared old g && false)
+    go : (b : Bool) → kind_of new g ≡ (if b then Private else kind_of old g) → has_shared new g ≡ (has_shared old g && not b)
+    go true e = bool_iff (has_shared new g) (has_shared old g && false)
         (λ h. absurd (let both : Shared ≡ Private = sym (now.1 h) ∙ e in cc))
-        (λ h. absurd (both_ways false refl (and_parts (is_shared old g) false h).1))
-    go false e = bool_iff (is_shared new g) (is_shared old g && true)
-        (λ h. and_from (is_shared old g) true (was.0 (sym e ∙ now.1 h)) refl)
-        (λ h. now.0 (e ∙ was.1 (and_parts (is_shared old g) true h).0))
+        (λ h. absurd (both_ways false refl (and_parts (has_shared old g) false h).1))
+    go false e = bool_iff (has_shared new g) (has_shared old g && true)
+        (λ h. and_from (has_shared old g) true (was.0 (sym e ∙ now.1 h)) refl)
+        (λ h. now.0 (e ∙ was.1 (and_parts (has_shared old g) true h).0))
 
 pub added-stand : AddedStand
 added-stand old new tvm next s first n some free made regions grown same = record {
@@ -219,12 +219,12 @@ added-stand old new tvm next s first n some free made regions grown same = recor
     pages = pages_from first n
 
     -- none of the pages was shared
-    without : (b : Bool) (g : ℕ) → has_guest g pages ≡ b → (is_shared old g && not b) ≡ is_shared old g
-    without true g here = and-turn (is_shared old g) false ∙ sym (false_from_ne_true (is_shared old g) (λ h.
+    without : (b : Bool) (g : ℕ) → has_guest g pages ≡ b → (has_shared old g && not b) ≡ has_shared old g
+    without true g here = and-turn (has_shared old g) false ∙ sym (false_from_ne_true (has_shared old g) (λ h.
         both_ways (covers old.regions g) (free_page pages old.regions g (meets-stand old tvm s first n ∙ free) here) (s.inside g h)))
-    without false g here = and-turn (is_shared old g) true
+    without false g here = and-turn (has_shared old g) true
 
-    kept : (g : ℕ) → is_shared new g ≡ is_shared old g
+    kept : (g : ℕ) → has_shared new g ≡ has_shared old g
     kept g = made-private pages old new made g ∙ without (has_guest g pages) g refl
 
 pub shared-stand : SharedStand
@@ -233,7 +233,7 @@ shared-stand old new tvm next s gpa n all made regions kept more = record {
   some = subst (All HasPages) (sym regions) s.some;
   shared = λ g. made-shared pages old new made g ∙ has-with old tvm s gpa n g ∙ ap (owners.has g) (sym more);
   each_once = subst AreDistinct (sym more) (distinct-with tvm s.each_once gpa n all);
-  inside = λ g h. ap (λ areas. covers areas g) regions ∙ elim (or_cases (is_shared old g) (has_guest g pages) (sym (made-shared pages old new made g) ∙ h)) [
+  inside = λ g h. ap (λ areas. covers areas g) regions ∙ elim (or_cases (has_shared old g) (has_guest g pages) (sym (made-shared pages old new made g) ∙ h)) [
     | inl there ↦ s.inside g there
     | inr here ↦ held_page pages old.regions g ((all-private-agrees old tvm s gpa n).1 all).region here
   ];
@@ -248,7 +248,7 @@ unshared-stand old new tvm next s gpa n made regions kept less = record {
   some = subst (All HasPages) (sym regions) s.some;
   shared = λ g. made-private pages old new made g ∙ has-without old tvm s gpa n g ∙ ap (owners.has g) (sym less);
   each_once = subst AreDistinct (sym less) (distinct-without tvm s.each_once gpa n);
-  inside = λ g h. ap (λ areas. covers areas g) regions ∙ s.inside g (and_parts (is_shared old g) _ (sym (made-private pages old new made g) ∙ h)).0;
+  inside = λ g h. ap (λ areas. covers areas g) regions ∙ s.inside g (and_parts (has_shared old g) _ (sym (made-private pages old new made g) ∙ h)).0;
 }
   where
     pages : Area

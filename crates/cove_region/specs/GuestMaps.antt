@@ -30,12 +30,12 @@ pub record GuestMap : Type 0 where
   pub regions : List Area
   pub rows : List Area
 
-abbrev pub is_shared : GuestMap → (g : ℕ) → Bool
-is_shared guests g = covers guests.rows g
+abbrev pub has_shared : GuestMap → (g : ℕ) → Bool
+has_shared guests g = covers guests.rows g
 
 -- what a guest page is
 abbrev pub kind_of : GuestMap → (g : ℕ) → AreaKind
-kind_of guests g = if is_shared guests g then Shared else (if covers guests.regions g then Private else Outside)
+kind_of guests g = if has_shared guests g then Shared else (if covers guests.regions g then Private else Outside)
 
 -- guest pages are all of a kind
 abbrev pub AreAll : GuestMap → AreaKind → (pages : Area) → Type 0
@@ -51,11 +51,11 @@ abbrev pub AreMade : AreaKind → (pages : Area) → (old new : GuestMap) → Ty
 AreMade kind pages old new = (g : ℕ) → kind_of new g ≡ (if has_guest g pages then kind else kind_of old g)
 
 -- the shared guest pages and some more, or without some
-abbrev pub shared_with : GuestMap → (pages : Area) → (g : ℕ) → Bool
-shared_with guests pages g = is_shared guests g || has_guest g pages
+abbrev pub has_shared_with : GuestMap → (pages : Area) → (g : ℕ) → Bool
+has_shared_with guests pages g = has_shared guests g || has_guest g pages
 
-abbrev pub shared_without : GuestMap → (pages : Area) → (g : ℕ) → Bool
-shared_without guests pages g = is_shared guests g && not (has_guest g pages)
+abbrev pub has_shared_without : GuestMap → (pages : Area) → (g : ℕ) → Bool
+has_shared_without guests pages g = has_shared guests g && not (has_guest g pages)
 
 -- a row of shared guest pages begins at one that comes after none of them
 abbrev pub begins : (shared : ℕ → Bool) → (g : ℕ) → Bool

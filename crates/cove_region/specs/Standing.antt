@@ -7,7 +7,7 @@ use Rattle.cove_model.specs.Orderly.{AreDistinct}
 use Rattle.cove_model.specs.Tvms.{Area as ModelArea, Tvm, new_tvm}
 use Rattle.cove_region.specs.declared.areas.Area.{Area}
 use Rattle.cove_region.specs.declared.kinds.AreaKind.TheVariants.{Outside, Private, Shared}
-use Rattle.cove_region.specs.GuestMaps.{AreAll, AreMade, AreOfOneRegion, FormRows, FormTooManyRows, GuestMap, covers, is_shared, kind_of, pages_from, shared_with, shared_without}
+use Rattle.cove_region.specs.GuestMaps.{AreAll, AreMade, AreOfOneRegion, FormRows, FormTooManyRows, GuestMap, covers, has_shared, has_shared_with, has_shared_without, kind_of, pages_from}
 use Rattle.cove_region.specs.Rows.{HasPages}
 
 -- the guest pages of a region of the model, and so many from an address on
@@ -22,9 +22,9 @@ pages_at gpa n = pages_from (gpa / 4096) n
 pub record StandFor (guests : GuestMap) (tvm : Tvm) : Type 0 where
   pub regions : guests.regions ≡ map area_of tvm.regions
   pub some : All HasPages guests.regions
-  pub shared : (g : ℕ) → is_shared guests g ≡ model.is_shared tvm g
+  pub shared : (g : ℕ) → has_shared guests g ≡ model.is_shared tvm g
   pub each_once : AreDistinct tvm.shared
-  pub inside : (g : ℕ) → IsTrue (is_shared guests g) → IsTrue (covers guests.regions g)
+  pub inside : (g : ℕ) → IsTrue (has_shared guests g) → IsTrue (covers guests.regions g)
 
 -- ---- what a guest page is
 
@@ -41,7 +41,7 @@ SharedAgrees =
 abbrev pub OutsideAgrees : Type 0
 OutsideAgrees =
     (guests : GuestMap) (tvm : Tvm) → StandFor guests tvm
-    → (g : ℕ) → (kind_of guests g ≡ Outside) ↔ IsFalse (list_any (model.holds g 1) tvm.regions)
+    → (g : ℕ) → (kind_of guests g ≡ Outside) ↔ IsFalse (list_any (model.has_run g 1) tvm.regions)
 
 -- ---- what a call is refused for
 
@@ -49,7 +49,7 @@ OutsideAgrees =
 abbrev pub OverlapAgrees : Type 0
 OverlapAgrees =
     (guests : GuestMap) (tvm : Tvm) → StandFor guests tvm → (first n : ℕ) → 0 < n
-    → (AreAll guests Outside (pages_from first n) → ⊥) ↔ IsTrue (list_any (model.meets first n) tvm.regions)
+    → (AreAll guests Outside (pages_from first n) → ⊥) ↔ IsTrue (list_any (model.meets_run first n) tvm.regions)
 
 -- some guest pages lie in one region, and are all private, or all shared
 abbrev pub AllPrivateAgrees : Type 0
@@ -67,19 +67,19 @@ AllSharedAgrees =
 -- the shared guest pages form so many rows, and too many with some private ones, or without some
 abbrev pub RowsAgree : Type 0
 RowsAgree =
-    (guests : GuestMap) (tvm : Tvm) → StandFor guests tvm → FormRows (is_shared guests) (model.row_count tvm.shared)
+    (guests : GuestMap) (tvm : Tvm) → StandFor guests tvm → FormRows (has_shared guests) (model.row_count tvm.shared)
 
 abbrev pub RowsWithAgree : Type 0
 RowsWithAgree =
     (guests : GuestMap) (tvm : Tvm) → StandFor guests tvm → (gpa n : ℕ)
     → IsTrue (model.are_of_one_region tvm (model.is_private tvm) gpa n)
-    → FormTooManyRows (shared_with guests (pages_at gpa n))
+    → FormTooManyRows (has_shared_with guests (pages_at gpa n))
     ↔ (SHARED_RUN_LIMIT < model.row_count (model.shared_with tvm gpa n))
 
 abbrev pub RowsWithoutAgree : Type 0
 RowsWithoutAgree =
     (guests : GuestMap) (tvm : Tvm) → StandFor guests tvm → (gpa n : ℕ)
-    → FormTooManyRows (shared_without guests (pages_at gpa n))
+    → FormTooManyRows (has_shared_without guests (pages_at gpa n))
     ↔ (SHARED_RUN_LIMIT < model.row_count (model.shared_without tvm gpa n))
 
 -- ---- what a call leaves
@@ -92,7 +92,7 @@ NoneStand = (number : ℕ) → StandFor (record { regions = []; rows = [] }) (ne
 abbrev pub AddedStand : Type 0
 AddedStand =
     (old new : GuestMap) (tvm next : Tvm) → StandFor old tvm → (first n : ℕ) → 0 < n
-    → IsFalse (list_any (model.meets first n) tvm.regions)
+    → IsFalse (list_any (model.meets_run first n) tvm.regions)
     → AreMade Private (pages_from first n) old new
     → new.regions ≡ old.regions ++ pages_from first n ∷ []
     → next.regions ≡ tvm.regions ++ record { first = first; count = n } ∷ []

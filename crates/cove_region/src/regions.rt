@@ -1,6 +1,6 @@
 ghost use Rattle.std.specs.Prelude.{◌≡◌, ◌↔◌, ◌+◌, ◌^◌, ◌<◌, ◌≤◌, [], ◌∷◌, ◌++◌, ℕ, true, length, nat_le, OnOk, OnErr, IsTrue, slice_index_or, ◌⊎◌};
 ghost use Rattle.std.specs.List.{list_any, AllPairs};
-ghost use Rattle.cove_region.specs.GuestMaps.{AreAll, AreMade, AreOfOneRegion, FormRows, FormTooManyRows, holds, is_shared, kind_of, meets, pages_from, shared_with, shared_without};
+ghost use Rattle.cove_region.specs.GuestMaps.{AreAll, AreMade, AreOfOneRegion, FormRows, FormTooManyRows, has_shared, has_shared_with, has_shared_without, holds, kind_of, meets, pages_from};
 ghost use Rattle.cove_region.specs.Rows.{AreDisjoint};
 
 use crate::areas::{Area, any_has, any_holds, any_meets, first_holding};
@@ -109,7 +109,7 @@ impl Regions {
             ↔ (AreOfOneRegion self.old AreaKind.Private (pages_from first.0 count) → ⊥) }
         ensures full { (result ≡ Err RegionFault.Full)
             ↔ (AreOfOneRegion self.old AreaKind.Private (pages_from first.0 count)
-            × FormTooManyRows (shared_with self.old (pages_from first.0 count))) }
+            × FormTooManyRows (has_shared_with self.old (pages_from first.0 count))) }
         ensures only { (result ≡ Err RegionFault.Overlap) → ⊥ }
         ensures kinds { OnOk result (AreMade AreaKind.Shared (pages_from first.0 count) self.old self.new) }
         ensures regions { self.new.regions ≡ self.old.regions }
@@ -134,7 +134,7 @@ impl Regions {
             ↔ (AreOfOneRegion self.old AreaKind.Shared (pages_from first.0 count) → ⊥) }
         ensures full { (result ≡ Err RegionFault.Full)
             ↔ (AreOfOneRegion self.old AreaKind.Shared (pages_from first.0 count)
-            × FormTooManyRows (shared_without self.old (pages_from first.0 count))) }
+            × FormTooManyRows (has_shared_without self.old (pages_from first.0 count))) }
         ensures only { (result ≡ Err RegionFault.Overlap) → ⊥ }
         ensures kinds { OnOk result (AreMade AreaKind.Private (pages_from first.0 count) self.old self.new) }
         ensures regions { self.new.regions ≡ self.old.regions }
@@ -160,7 +160,7 @@ impl Regions {
 pub fn regions_law(guests: &Regions)
     ensures regions { length guests.now.regions ≤ REGION_LIMIT }
     ensures disjoint { AllPairs AreDisjoint guests.now.regions }
-    ensures rows { FormRows (is_shared guests.now) (length guests.now.rows) }
+    ensures rows { FormRows (has_shared guests.now) (length guests.now.rows) }
     ensures few { length guests.now.rows ≤ SHARED_RUN_LIMIT }
 {
     let _ = &guests.rows;

@@ -4,16 +4,16 @@ use Rattle.cove_stage2.specs.declared.entries.Leaf.{Leaf}
 use Rattle.cove_stage2.specs.declared.entries.Leaf.TheVariants.{Absent, Present, Blocked}
 use Rattle.cove_stage2.specs.declared.entries.TableEntry.{TableEntry}
 use Rattle.cove_stage2.specs.declared.entries.TableEntry.TheVariants.{Leaf as LeafEntry, Next}
-use Rattle.cove_stage2.specs.Entries.{leaf_word, IsWithin, entry_word, IsWithinEntry, IsEntryWord, OfLeaf, OfTable}
+use Rattle.cove_stage2.specs.Entries.{leaf_word, IsBoundedLeaf, entry_word, IsBoundedEntry, IsEntryWord, OfLeaf, OfTable}
 
 -- the word of a leaf within its limits is a leaf
-pub is_leaf : (leaf : Leaf) → IsWithin leaf → IsLeaf (leaf_word leaf)
+pub is_leaf : (leaf : Leaf) → IsBoundedLeaf leaf → IsLeaf (leaf_word leaf)
 is_leaf Absent h = IsAbsent refl
 is_leaf (Present page shared) h = IsPresent page.0 shared h refl
 is_leaf (Blocked page shared since) h = IsBlocked page.0 shared since h.0 h.1 refl
 
 -- the word of an entry within its limits is the word of one
-pub is_entry_word : (entry : TableEntry) → IsWithinEntry entry → IsEntryWord (entry_word entry)
+pub is_entry_word : (entry : TableEntry) → IsBoundedEntry entry → IsEntryWord (entry_word entry)
 is_entry_word (LeafEntry leaf) h = OfLeaf (is_leaf leaf h)
 is_entry_word (Next page) h = OfTable page.0 h refl
 

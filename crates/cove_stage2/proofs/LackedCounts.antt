@@ -1,9 +1,10 @@
 -- Tables that a run lacks, by tests of which slots have no entry.
 use Rattle.std.proofs.Common.{◌≡◌, ℕ, zero, suc, ◌+◌, ◌-◌, ◌/◌, ◌^◌, ◌<◌, ◌≤◌, ◌==◌, Bool, List, refl, ap, subst, arith}
+use Rattle.cove_base.specs.Executions.{flag}
 use Rattle.cove_base.specs.Tables.{InRoot, InMiddle, entry_at}
 use Rattle.cove_stage2.specs.declared.tables.Level.{Level}
 use Rattle.cove_stage2.specs.declared.tables.Level.TheVariants.{Root, Middle}
-use Rattle.cove_stage2.specs.Lacked.{flag, slot_of_level, absent_among, blocks_touched, tables_lacked}
+use Rattle.cove_stage2.specs.Lacked.{slot_of_level, absent_among, blocks_touched, tables_lacked}
 
 -- how many of the k numbers from one on pass a test
 abbrev pub count_among : (test : ℕ → Bool) (n k : ℕ) → ℕ

@@ -1,8 +1,9 @@
 use Rattle.std.proofs.Common.{◌≡◌, ◌≢◌, ℕ, zero, suc, ◌+◌, ◌-◌, ◌/◌, ◌^◌, ◌<◌, ◌≤◌, ◌==◌, ◌∙◌, Bool, true, false, List, refl, ap, arith}
+use Rattle.cove_base.specs.Executions.{flag}
 use Rattle.cove_base.specs.Tables.{entry_at}
 use Rattle.cove_stage2.specs.declared.tables.Level.{Level}
 use Rattle.cove_stage2.specs.declared.tables.Level.TheVariants.{Root, Middle}
-use Rattle.cove_stage2.specs.Lacked.{flag, slot_of_level, absent_among, blocks_touched, tables_lacked}
+use Rattle.cove_stage2.specs.Lacked.{slot_of_level, absent_among, blocks_touched, tables_lacked}
 
 pub flag-most : (b : Bool) → flag b ≤ 1
 flag-most true = omega arith

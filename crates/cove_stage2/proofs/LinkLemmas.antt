@@ -1,11 +1,12 @@
 use Rattle.std.proofs.Common.{◌≡◌, ◌≢◌, ℕ, zero, suc, ◌+◌, ◌-◌, ◌/◌, ◌^◌, ◌<◌, ◌≤◌, ◌==◌, ◌∙◌, List, [], get_or, set, take, length, refl, sym, ap, subst, arith, inl, inr}
 use Rattle.std.proofs.lemmas.List.{get_or-take, length-take-le}
+use Rattle.cove_base.specs.Executions.{flag}
 use Rattle.cove_base.proofs.TreeLemmas.{link-slot, slot-cases, root≢middle}
 use Rattle.cove_base.proofs.TreeStores.{IsStoreAt, OnlyAt, link-store, tree-link, spare-kept}
 use Rattle.cove_base.specs.Tables.{Slot, InRoot, InMiddle, IsLinkSlot, entry_at, next_table, StandsAt, IsLink, NoTable, ATable, IsTree, IsSpare, IsPool}
 use Rattle.cove_stage2.specs.declared.tables.Level.TheVariants.{Root, Middle}
 use Rattle.cove_stage2.specs.Changes.{LinksTable, NamesWay, KeepsLinks}
-use Rattle.cove_stage2.specs.Lacked.{flag, blocks_touched, absent_among, tables_lacked}
+use Rattle.cove_stage2.specs.Lacked.{blocks_touched, absent_among, tables_lacked}
 use Rattle.cove_stage2.specs.MapStores.{next_page, link_stores, pool_after}
 
 -- where a slot names a table, nothing is stored, and no page leaves the pool

@@ -2,12 +2,13 @@ use Rattle.std.proofs.Common.{◌≡◌, ◌≢◌, ℕ, zero, suc, ◌+◌, ◌
 use Rattle.std.proofs.Math.Dec.{eqb-suc-zero}
 use Rattle.std.proofs.lemmas.Bool.{cases_eq}
 use Rattle.std.proofs.lemmas.List.{length-take-le}
+use Rattle.cove_base.specs.Executions.{flag}
 use Rattle.cove_base.proofs.TreeLemmas.{root≢middle, root-number, middle-number}
 use Rattle.cove_base.specs.Tables.{InRoot, InMiddle, entry_at, next_table}
 use Rattle.cove_stage2.specs.declared.tables.Level.{Level}
 use Rattle.cove_stage2.specs.declared.tables.Level.TheVariants.{Root, Middle}
 use Rattle.cove_stage2.specs.Changes.{NamesWay}
-use Rattle.cove_stage2.specs.Lacked.{flag, slot_of_level, absent_among, blocks_touched, tables_lacked, LacksRest}
+use Rattle.cove_stage2.specs.Lacked.{slot_of_level, absent_among, blocks_touched, tables_lacked, LacksRest}
 use Rattle.cove_stage2.specs.MapStores.{pool_after, pool_left}
 use Rattle.cove_stage2.proofs.LinkLemmas.{tables_lacked-one}
 

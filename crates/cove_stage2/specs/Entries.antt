@@ -13,10 +13,10 @@ leaf_word (Present page shared) = present page.0 shared
 leaf_word (Blocked page shared since) = blocked (present page.0 shared) since
 
 -- the numbers of a leaf are within their limits
-abbrev pub IsWithin : Leaf → Type 0
-IsWithin Absent = Unit {0}
-IsWithin (Present page shared) = page.0 < 2 ^ 16
-IsWithin (Blocked page shared since) = (page.0 < 2 ^ 16) × (since < 2 ^ 32)
+abbrev pub IsBoundedLeaf : Leaf → Type 0
+IsBoundedLeaf Absent = Unit {0}
+IsBoundedLeaf (Present page shared) = page.0 < 2 ^ 16
+IsBoundedLeaf (Blocked page shared since) = (page.0 < 2 ^ 16) × (since < 2 ^ 32)
 
 -- the word of an entry
 abbrev pub entry_word : TableEntry → ℕ
@@ -24,9 +24,9 @@ entry_word (LeafEntry leaf) = leaf_word leaf
 entry_word (Next page) = next_table page.0
 
 -- the numbers of an entry are within their limits
-abbrev pub IsWithinEntry : TableEntry → Type 0
-IsWithinEntry (LeafEntry leaf) = IsWithin leaf
-IsWithinEntry (Next page) = page.0 < 2 ^ 16
+abbrev pub IsBoundedEntry : TableEntry → Type 0
+IsBoundedEntry (LeafEntry leaf) = IsBoundedLeaf leaf
+IsBoundedEntry (Next page) = page.0 < 2 ^ 16
 
 -- a word that a table may have: a leaf, or a next table
 pub data IsEntryWord (word : ℕ) : Type 0 where

@@ -1,12 +1,8 @@
 use Rattle.std.specs.Prelude.{◌≡◌, ◌<◌, ◌≤◌, ℕ, zero, suc, ◌+◌, ◌-◌, ◌/◌, ◌^◌, ◌==◌, Bool, true, false, List}
+use Rattle.cove_base.specs.Executions.{flag}
 use Rattle.cove_base.specs.Tables.{Slot, InRoot, InMiddle, entry_at}
 use Rattle.cove_stage2.specs.declared.tables.Level.{Level}
 use Rattle.cove_stage2.specs.declared.tables.Level.TheVariants.{Root, Middle}
-
--- 1 for true, 0 for false
-abbrev pub flag : Bool → ℕ
-flag true = 1
-flag false = 0
 
 -- a slot of one of the upper two levels
 abbrev pub slot_of_level : Level → ℕ → Slot

@@ -1,6 +1,6 @@
 ghost use Rattle.std.specs.Prelude.{◌≡◌, ◌<◌, ◌^◌, ◌↔◌, IfSome, IsSome};
 ghost use Rattle.cove_base.specs.Tables.{IsLeaf, present};
-ghost use Rattle.cove_stage2.specs.Entries.{leaf_word, IsWithin, entry_word, IsWithinEntry, IsEntryWord};
+ghost use Rattle.cove_stage2.specs.Entries.{leaf_word, IsBoundedLeaf, entry_word, IsBoundedEntry, IsEntryWord};
 
 use cove_base::Page;
 
@@ -33,7 +33,7 @@ pub enum TableEntry {
 
 /// The word of a leaf.
 pub fn encode(leaf: Leaf) -> u64
-    requires { IsWithin leaf }
+    requires { IsBoundedLeaf leaf }
     ensures { result ≡ leaf_word leaf }
 {
     match leaf {
@@ -50,7 +50,7 @@ pub fn encode(leaf: Leaf) -> u64
 /// The entry of which this is the word, where it is the word of one.
 pub fn decode_entry(word: u64) -> Option<TableEntry>
     ensures word { IfSome result (λ entry. entry_word entry ≡ word) }
-    ensures within { IfSome result IsWithinEntry }
+    ensures within { IfSome result IsBoundedEntry }
     ensures exact { IsSome result ↔ IsEntryWord word }
 {
     if word == 0 {
@@ -71,7 +71,7 @@ pub fn decode_entry(word: u64) -> Option<TableEntry>
 pub fn decode(word: u64) -> Leaf
     requires { IsLeaf word }
     ensures word { leaf_word result ≡ word }
-    ensures within { IsWithin result }
+    ensures within { IsBoundedLeaf result }
 {
     match decode_entry(word) {
         Some(TableEntry::Leaf(leaf)) => leaf,

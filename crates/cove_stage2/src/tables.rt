@@ -1,4 +1,5 @@
 ghost use Rattle.std.specs.Prelude.{◌≡◌, ◌≢◌, ◌+◌, ◌*◌, ◌/◌, length, ◌%◌, ◌^◌, ◌<◌, ◌≤◌, ℕ};
+ghost use Rattle.cove_base.specs.Executions.{flag};
 ghost use Rattle.cove_base.specs.Places.{table_word};
 ghost use Rattle.cove_base.specs.Tables.{below, entry_at, InMiddle, leaf_at, IsLeaf, IsLink, IsLinkSlot, IsPool, IsTree, next_table, present, StandsAt};
 ghost use Rattle.cove_base.specs.declared.limits.TheConstants.{PAGE_LIMIT};
@@ -6,8 +7,8 @@ ghost use Rattle.cove_base.specs.Unchanged.{Unchanged};
 ghost use Rattle.cove_base.specs.Stores.{fills, stored, AllAllowed};
 ghost use Rattle.cove_base.specs.TableWords.{blocked};
 ghost use Rattle.cove_stage2.specs.Changes.{ChangesLeaf, clear_stores, ClearsPage, KeepsLeaves, KeepsLinks, LinksTable, NamesWay, IsPresentLeaf, IsBlockedLeaf, unblocked, leaf_stores};
-ghost use Rattle.cove_stage2.specs.Entries.{leaf_word, IsWithin};
-ghost use Rattle.cove_stage2.specs.Lacked.{flag, slot_of_level, absent_among, tables_lacked, LacksRest};
+ghost use Rattle.cove_stage2.specs.Entries.{leaf_word, IsBoundedLeaf};
+ghost use Rattle.cove_stage2.specs.Lacked.{slot_of_level, absent_among, tables_lacked, LacksRest};
 ghost use Rattle.cove_stage2.specs.MapStores.{link_stores, map_stores, pool_after, pool_left, way_stores};
 ghost use Rattle.cove_stage2.specs.Walks.{WalksTo};
 
@@ -38,7 +39,7 @@ impl Tables {
         requires tree { IsTree self.now.pages self.now.root.0 (W.words w.old) }
         ensures leaf { leaf_word result
             ≡ leaf_at self.now.pages self.now.root.0 (W.words w.old) g.0 }
-        ensures within { IsWithin result }
+        ensures within { IsBoundedLeaf result }
         ensures unchanged { Unchanged W.words W.clean W.guard w.old w.new }
     {
         decode(self.leaf(w, g))

@@ -18,7 +18,7 @@ use Rattle.cove_base.specs.declared.numbers.Role.{Role}
 use Rattle.cove_base.specs.declared.numbers.Role.TheVariants.{Root, State, Table, Vcpu, Data}
 use Rattle.cove_model.proofs.LeafWords.{given_role}
 use Rattle.cove_model.proofs.Runs.{run_cases}
-use Rattle.cove_model.specs.GuestPages.{guests}
+use Rattle.cove_model.specs.GuestPages.{page_run}
 use Rattle.cove_model.specs.HostCalls.{rule}
 use Rattle.cove_model.specs.Owners.{AsTable, Free, page_at}
 use Rattle.cove_model.specs.States.{State as MonitorState}
@@ -74,7 +74,7 @@ module _ (words : List ℕ) (G : Ground) (S : MonitorState) (k base n : ℕ) (ol
   added = stored words (fills (base / 4096) n (given (suc k) Table))
 
   abbrev how : ModelTvm → ModelTvm
-  how tvm = record tvm { tables = tvm.tables ++ guests base n }
+  how tvm = record tvm { tables = tvm.tables ++ page_run base n }
 
   free_at : (p : ℕ) → base / 4096 ≤ p → p < base / 4096 + n → page_at S.pages p ≡ Free
   free_at = page_free words G S k base n AsTable old model may
@@ -103,7 +103,7 @@ module _ (words : List ℕ) (G : Ground) (S : MonitorState) (k base n : ℕ) (ol
   pool = old.pool.pages
 
   abbrev run : List ℕ
-  run = guests base n
+  run = page_run base n
 
   abbrev more : List ℕ
   more = pool ++ run

@@ -2,7 +2,7 @@
 use Rattle.std.proofs.Common.{◌≡◌, ℕ, List, [], ◌∷◌, ◌++◌, length, length-append, Some, ap, arith}
 use Rattle.std.proofs.lemmas.List.Elements.{All-pop}
 use Rattle.cove_stage2.specs.MapStores.{Pages}
-use Rattle.cove_tvm.specs.TvmTables.{HasRoom, IsFresh}
+use Rattle.cove_tvm.specs.TvmTables.{HasRoom, IsEmptyPool}
 use Rattle.cove_tvm.specs.declared.machines.Tvm.{Tvm}
 
 pub room_left : (pages : ℕ) (tvms new : List Tvm) (capacity capacity' : ℕ) (spare left : List Pages) (tvm : Tvm) (pool : Pages)
@@ -15,5 +15,5 @@ room_left pages tvms new capacity capacity' spare left tvm pool room grown same 
       let a = ap length grown in
       let b = ap length taken in
       omega (arith, room.count, a, b, length-append tvms (tvm ∷ []), length-append left (pool ∷ []));
-  each = (All-pop (IsFresh pages) spare left (Some pool) taken room.each).0;
+  each = (All-pop (IsEmptyPool pages) spare left (Some pool) taken room.each).0;
 }

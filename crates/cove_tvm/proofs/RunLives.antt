@@ -11,7 +11,7 @@ use Rattle.cove_base.specs.declared.numbers.Role.TheVariants.{Root, State, Table
 use Rattle.cove_imsic.specs.FileTables.{FileTable}
 use Rattle.cove_model.proofs.LeafWords.{none_named}
 use Rattle.cove_model.proofs.Runs.{run_cases}
-use Rattle.cove_model.specs.GuestPages.{guests, new_ones, new_seconds, new_thirds, second_of, third_of}
+use Rattle.cove_model.specs.GuestPages.{new_ones, new_seconds, new_thirds, page_run, second_of, third_of}
 use Rattle.cove_model.specs.Mappings.{mapping_of, with_mappings}
 use Rattle.cove_model.specs.Owners.{has}
 use Rattle.cove_model.specs.States.{Seat}
@@ -119,7 +119,7 @@ module _ (pages harts t gpa p n : ℕ) (shared : Bool) (backing : ℕ → Backin
 
   links_new : (a : Slot) → IsLinkSlot a → uses_slot grown a ≡ not (entry_at pages old.tables.root.0 new a == 0)
   links_new (InRoot k) slot =
-      link_new (InRoot k) slot k model.seconds (map second_of (guests gpa n)) (mappings_mid.links (InRoot k) slot)
+      link_new (InRoot k) slot k model.seconds (map second_of (page_run gpa n)) (mappings_mid.links (InRoot k) slot)
       (λ there.
       let one = run_has second_of k (gpa / 4096) n there in
       let same : (gpa / 4096 + one.0) / 512 / 512 ≡ k = omega (arith, one.2) in
@@ -132,7 +132,7 @@ module _ (pages harts t gpa p n : ℕ) (shared : Bool) (backing : ℕ → Backin
         root≢middle k ((gpa / 4096 + j) / 512),
       )))
   links_new (InMiddle k) slot =
-      link_new (InMiddle k) slot k model.thirds (map third_of (guests gpa n)) (mappings_mid.links (InMiddle k) slot)
+      link_new (InMiddle k) slot k model.thirds (map third_of (page_run gpa n)) (mappings_mid.links (InMiddle k) slot)
       (λ there.
       let one = run_has third_of k (gpa / 4096) n there in
       subst (λ m. entry_at pages old.tables.root.0 new (InMiddle m) ≢ 0) one.2 (done.way one.0 one.1).1)

@@ -2,12 +2,13 @@
 use Rattle.std.proofs.Common.{◌≡◌, ◌⊎◌, ◌∙◌, ℕ, zero, suc, ◌+◌, ◌-◌, ◌/◌, ◌^◌, ◌≤◌, ◌==◌, ◌||◌, Bool, true, false, not, cond, eqb, List, ◌∷◌, length, map, inl, inr, refl, sym, ap, arith}
 use Rattle.std.proofs.lemmas.Bool.{cases_eq, eq-eqb, ne_eqb, or_left}
 use Rattle.std.specs.List.{range_with_len}
+use Rattle.cove_base.specs.Executions.{flag}
 use Rattle.cove_base.specs.Tables.{InMiddle, InRoot, entry_at}
 use Rattle.cove_model.specs.GuestPages.{new_ones, new_seconds, new_thirds, second_of, third_of}
 use Rattle.cove_model.specs.Owners.{has}
 use Rattle.cove_model.specs.Tvms.{Tvm as ModelTvm}
 use Rattle.cove_stage2.proofs.LackedCounts.{count_among, tables_lacked-told}
-use Rattle.cove_stage2.specs.Lacked.{blocks_touched, flag, tables_lacked}
+use Rattle.cove_stage2.specs.Lacked.{blocks_touched, tables_lacked}
 use Rattle.cove_tvm.specs.MissingTables.{MissingTablesAgree}
 use Rattle.cove_tvm.specs.TvmStands.{AreMappings}
 

@@ -5,7 +5,7 @@ use Rattle.cove_base.specs.Places.{page_word}
 use Rattle.cove_base.specs.Stores.{AllAllowed, fills, stored}
 use Rattle.cove_base.specs.declared.calls.HostCall.TheVariants.{Tables}
 use Rattle.cove_base.specs.declared.numbers.Role.TheVariants.{Table}
-use Rattle.cove_model.specs.GuestPages.{guests}
+use Rattle.cove_model.specs.GuestPages.{page_run}
 use Rattle.cove_model.specs.HostCalls.{rule}
 use Rattle.cove_model.specs.LawfulStores.{IsLawful}
 use Rattle.cove_model.specs.States.{State}
@@ -18,7 +18,7 @@ use Rattle.cove_tvm.specs.declared.machines.Tvm.{Tvm}
 
 -- the pool of a TVM has the n pages from a byte address on after those that it had, and all else stays
 pub record AddsTables (base n : ℕ) (old new : Tvm) : Type 0 where
-  pub pages : new.pool.pages ≡ old.pool.pages ++ guests base n
+  pub pages : new.pool.pages ≡ old.pool.pages ++ page_run base n
   pub room : new.pool.room ≡ old.pool.room
   pub rest : new ≡ record old { pool = new.pool }
 

@@ -23,7 +23,7 @@ pub record LeavesOthers (t : ℕ) (words new : List ℕ) (G : Ground) (table : T
   pub seats : T.seats ≡ S.seats
 
 -- what new words, frames and TVMs stand for beside the TVMs that stay: the page words, the frames, the one TVM, the counts
-pub record StandsAt (t : ℕ) (new : List ℕ) (G : Ground) (frames : List (List ℕ)) (table : TvmTable) (T : State) : Type 0 where
+pub record OwnPartStands (t : ℕ) (new : List ℕ) (G : Ground) (frames : List (List ℕ)) (table : TvmTable) (T : State) : Type 0 where
   pub words_stand : Stand G.pages G.harts new T
   pub frames_stand : FramesStand frames T
   pub board : BoardStands (record G { memory = frames; tvms = table }) T
@@ -34,7 +34,7 @@ pub record StandsAt (t : ℕ) (new : List ℕ) (G : Ground) (frames : List (List
 abbrev pub OneTvmStands : Type 0
 OneTvmStands =
     (t : ℕ) (words new : List ℕ) (G : Ground) (frames : List (List ℕ)) (table : TvmTable) (S T : State)
-    → Stands words G S → LeavesOthers t words new G table S T → StandsAt t new G frames table T
+    → Stands words G S → LeavesOthers t words new G table S T → OwnPartStands t new G frames table T
     → Stands new (record G { memory = frames; tvms = table }) T
 
 -- a change of a TVM that keeps its number, and what its guest pages are mapped to

@@ -40,18 +40,18 @@ pub record IsNewTvm (pages root state : ℕ) (tvm : Tvm) : Type 0 where
   pub no_v3 : tvm.v3 ≡ None
 
 -- an empty pool with room for every page of the board
-pub record IsFresh (pages : ℕ) (pool : Pages) : Type 0 where
+pub record IsEmptyPool (pages : ℕ) (pool : Pages) : Type 0 where
   pub empty : pool.pages ≡ []
   pub room : pool.room ≡ pages
 
 -- so many empty pools
-pub record AreFresh (pages n : ℕ) (pools : List Pages) : Type 0 where
+pub record AreEmptyPools (pages n : ℕ) (pools : List Pages) : Type 0 where
   pub count : length pools ≡ n
-  pub each : All (IsFresh pages) pools
+  pub each : All (IsEmptyPool pages) pools
 
 -- there is room for every TVM that may be created, and a pool for each that wasn't yet
 pub record HasRoom (pages : ℕ) (tvms : List Tvm) (capacity : ℕ) (spare : List Pages) : Type 0 where
   pub board : pages ≤ PAGE_LIMIT
   pub capacity_is : TVM_LIMIT ≤ capacity
   pub count : length tvms + length spare ≡ TVM_LIMIT
-  pub each : All (IsFresh pages) spare
+  pub each : All (IsEmptyPool pages) spare

@@ -2,7 +2,7 @@
 use Rattle.std.specs.Prelude.{◌≡◌, ℕ, suc, ◌+◌, ◌/◌, ◌^◌, ◌≤◌, Bool, true, false, is_some, List, Some}
 use Rattle.std.specs.List.{list_any}
 use Rattle.cove_base.specs.declared.limits.TheConstants.{PAGE_LIMIT}
-use Rattle.cove_model.specs.GuestPages.{guests, missing_tables}
+use Rattle.cove_model.specs.GuestPages.{missing_tables, page_run}
 use Rattle.cove_model.specs.Mappings.{mapping_of}
 use Rattle.cove_model.specs.Owners.{Owner, every}
 use Rattle.cove_model.specs.States.{State, find_tvm}
@@ -23,5 +23,5 @@ pub record MayMapOwnedBy (test : Owner → Bool) (words : List ℕ) (G : Ground)
   pub inside : base / 4096 + n ≤ G.pages
   pub owners : every test (base / 4096) n S.pages ≡ true
   pub near : gpa / 4096 + n ≤ 2 ^ 29
-  pub unmapped : list_any (λ g. is_some (mapping_of model g)) (guests gpa n) ≡ false
+  pub unmapped : list_any (λ g. is_some (mapping_of model g)) (page_run gpa n) ≡ false
   pub enough : missing_tables model gpa n ≡ 0

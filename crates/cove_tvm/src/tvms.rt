@@ -1,7 +1,7 @@
 ghost use Rattle.std.specs.Prelude.{◌≡◌, ◌+◌, ◌<◌, ◌≤◌, ◌++◌, [], ◌∷◌, IfOk, length, slice_get, Some};
 ghost use Rattle.std.specs.Option.{option_copied, option_copied_mut};
 ghost use Rattle.std.specs.Borrow.{sem};
-ghost use Rattle.cove_tvm.specs.TvmTables.{AreFresh, IsFresh, IsNewTvm, live_at};
+ghost use Rattle.cove_tvm.specs.TvmTables.{AreEmptyPools, IsEmptyPool, IsNewTvm, live_at};
 ghost use Rattle.cove_tvm.specs.declared.machines.Tvm.{Tvm};
 
 use crate::machines::{Life, Tvm};
@@ -107,7 +107,7 @@ impl Tvms {
 
 // A TVM that is being built, without anything yet.
 fn building(tables: Tables, state: Page, pool: Pool) -> Tvm
-    requires { IsFresh tables.pages pool }
+    requires { IsEmptyPool tables.pages pool }
     ensures { IsNewTvm tables.pages tables.root.0 state.0 result }
 {
     Tvm {
@@ -127,7 +127,7 @@ fn building(tables: Tables, state: Page, pool: Pool) -> Tvm
 
 // An empty pool for each TVM that may be created, with room for every page of the board.
 fn pools(alloc: Global, pages: u32) -> Result<Vec<Pool>, NoMemory>
-    ensures { IfOk result (λ pools. AreFresh pages TVM_LIMIT pools.items) }
+    ensures { IfOk result (λ pools. AreEmptyPools pages TVM_LIMIT pools.items) }
 {
     let mut pools = Vec::with_capacity(alloc, TVM_LIMIT as usize)?;
     for _ in 0..TVM_LIMIT {

@@ -3,13 +3,13 @@ use Rattle.std.proofs.lemmas.List.{length-replicate, take_all}
 use Rattle.cove_base.proofs.ScriptLimits.{limits_of}
 use Rattle.cove_base.specs.Scripts.{ScriptValue}
 use Rattle.cove_core.proofs.FillLemmas.{fill_within, filled_stands, opening_more, show_same, show_zeros}
-use Rattle.cove_mem.specs.Frames.{zeros}
+use Rattle.cove_mem.specs.Frames.{zero_frame}
 use Rattle.cove_core.proofs.fills.opening_memory.Goals as goal
 
 pub loop-fill-init : goal.loop-fill-init
 loop-fill-init c = record {
   shows = rw c.in_ok-memory.ensures (show_zeros _);
-  size = ap length c.in_ok-memory.ensures ∙ length-replicate _ zeros ∙ ap (λ (s : ScriptValue). s.pages) c.script.view_is;
+  size = ap length c.in_ok-memory.ensures ∙ length-replicate _ zero_frame ∙ ap (λ (s : ScriptValue). s.pages) c.script.view_is;
 }
 
 pub put_fill-requires-clause-within : goal.put_fill-requires-clause-within

@@ -1,6 +1,6 @@
 use Rattle.std.proofs.Common.{◌≡◌, ◌<◌, ℕ, false}
 use Rattle.cove_base.specs.Unchanged.{Unchanged}
-use Rattle.cove_host.specs.Inside.{is_inside}
+use Rattle.cove_host.specs.HartsInside.{is_inside}
 use Rattle.cove_host.proofs.destruction.first_inside.Given as goal
 
 abbrev pub invariant-loop-hart : goal.invariant-loop-hart

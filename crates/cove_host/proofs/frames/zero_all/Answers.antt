@@ -1,5 +1,5 @@
 use Rattle.std.proofs.Common.{◌≡◌, refl, arith}
-use Rattle.cove_mem.specs.Frames.{zeros as frame_of_zeros}
+use Rattle.cove_mem.specs.Frames.{zero_frame as frame_of_zeros}
 use Rattle.cove_model.specs.Owners.{zeros}
 use Rattle.cove_host.proofs.FilledFrames.{filled_next}
 use Rattle.cove_host.proofs.frames.zero_all.Goals as goal

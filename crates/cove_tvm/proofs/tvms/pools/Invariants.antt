@@ -1,5 +1,5 @@
-use Rattle.cove_tvm.specs.TvmTables.{AreFresh}
+use Rattle.cove_tvm.specs.TvmTables.{AreEmptyPools}
 use Rattle.cove_tvm.proofs.tvms.pools.Given as goal
 
 abbrev pub invariant-loop : goal.invariant-loop
-invariant-loop l = AreFresh l.pages l.counter l.pools.items
+invariant-loop l = AreEmptyPools l.pages l.counter l.pools.items

@@ -1,6 +1,7 @@
 use Rattle.std.proofs.Common.{◌≡◌, ◌+◌, ◌==◌, ◌∙◌, ap, arith}
+use Rattle.cove_base.specs.Executions.{flag}
 use Rattle.cove_base.specs.Tables.{entry_at}
-use Rattle.cove_stage2.specs.Lacked.{flag, slot_of_level}
+use Rattle.cove_stage2.specs.Lacked.{slot_of_level}
 use Rattle.cove_stage2.proofs.LackedLemmas.{flag-most, absent_among-rest}
 use Rattle.cove_stage2.proofs.tables.Tables.absent.Goals as goal
 

@@ -1,12 +1,12 @@
 use Rattle.std.proofs.Common.{◌≡◌, ℕ, Bool, true, false, cond, eqb, true≢false, [], Some, None, unwrap_or, refl, sym, ◌∙◌, arith}
 use Rattle.std.proofs.lemmas.Option.{none-some}
 use Rattle.cove_model.proofs.BoundApart.{bound_apart_call}
-use Rattle.cove_model.proofs.guest_examples.worked_bindings.Goals as goal
+use Rattle.cove_model.proofs.guest_examples.worked_bound_files.Goals as goal
 use Rattle.cove_base.specs.declared.calls.HostCall.TheVariants.{Bind}
 use Rattle.cove_model.proofs.Changes.{place_at}
 use Rattle.cove_model.specs.GuestExamples.{first_cpu, tenant, unbound}
 use Rattle.cove_model.specs.HostCalls.{rule}
-use Rattle.cove_model.specs.Orderly.{AreBoundApart, AreDistinct, Place, cpus_of, place_in, place_of}
+use Rattle.cove_model.specs.Orderly.{AreBoundApart, AreDistinct, BoundFile, cpus_of, bound_file_in, bound_file_of}
 use Rattle.cove_model.specs.States.{new_cpu}
 use Rattle.cove_model.specs.Tvms.{Tvm, new_tvm}
 
@@ -14,10 +14,10 @@ abbrev built : Tvm
 built = record tenant { runnable = false; mappings = [] }
 
 -- nothing is bound before
-nowhere : (t v : ℕ) → place_of unbound t v ≡ None
+nowhere : (t v : ℕ) → bound_file_of unbound t v ≡ None
 nowhere t v = go (eqb 1 t)
   where
-    cpu : (b c : Bool) → place_in (unwrap_or (cond b (Some first_cpu) (cond c (Some (new_cpu 1)) None)) (new_cpu v)).binding ≡ None
+    cpu : (b c : Bool) → bound_file_in (unwrap_or (cond b (Some first_cpu) (cond c (Some (new_cpu 1)) None)) (new_cpu v)).binding ≡ None
     cpu true c = refl
     cpu false true = refl
     cpu false false = refl
@@ -43,7 +43,7 @@ returns-clause-apart c =
 
 pub returns-clause-one_file : goal.returns-clause-one_file
 returns-clause-one_file c = λ apart.
-    let place : Place = record { hart = 1; file = 1 } in
+    let place : BoundFile = record { hart = 1; file = 1 } in
     let same : ◌≡◌ {A = ℕ} 0 1 = (apart.files 1 1 0 1 place refl refl).1 in
     absurd (omega arith)
 
