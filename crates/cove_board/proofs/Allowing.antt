@@ -1,16 +1,13 @@
 -- Each kind of step is allowed by the rule.
 use Rattle.std.proofs.Common.{◌≡◌, ℕ, ◌+◌, ◌<◌, false, true, List, [], ◌∷◌, None, eqb, eq-eqb, get_or, set, zero, suc, refl, sym, ◌∙◌, ap, subst}
 use Rattle.atomic_table.specs.Table.{Allows, Joins, Me, Splits, State, keeps, step}
-use Rattle.cove_base.specs.Places.{count_word}
-use Rattle.cove_base.specs.Scripts.{ScriptValue}
-use Rattle.cove_base.specs.declared.events.Entry.{Entry}
+use Rattle.cove_model.specs.Machine.{count_word, ScriptValue, Entry, IsLawful}
 use Rattle.cove_board.proofs.Moving.{count_monitor, count_others, count_part, load_moves, new_moves, store_monitor, store_others, store_part, walk_moves}
 use Rattle.cove_board.proofs.Ruling.{both_step, deal_step, has_hart, has_monitor, hart_step, join_step, part_step}
 use Rattle.cove_board.specs.Parts.{HartPart, MonitorPart, Part, both, counted_monitor, counted_part, dealt_monitor, hart_alone, hart_of, left_part, loaded_part, monitor_alone, monitor_of, new_part, spent, stored_monitor, stored_part, walked_part}
 use Rattle.cove_board.specs.Plays.{Counts, Knows, Loads, Stores, Walks}
 use Rattle.cove_board.specs.Ruled.{Holds, IsMonitor, IsPart, IsRuled}
 use Rattle.cove_model.specs.LawfulCounts.{IsCountable, counted}
-use Rattle.cove_model.specs.LawfulStores.{IsLawful}
 use lib.ListN.{get_elem?}
 use mathlib.Core.Option.{none, some}
 use prog.Atomic.{either}

@@ -1,17 +1,13 @@
 -- What two parts that are carried together keep of each other, at each step.
 use Rattle.std.proofs.Common.{◌≡◌, ℕ, Bool, true, false, cond, eqb, [], ◌∷◌, ◌++◌, ◌+◌, get_or, length, length-set, take, refl, sym, ◌∙◌, ap, subst, arith}
 use Rattle.std.proofs.lemmas.List.{take_all, take_at}
-use Rattle.cove_base.specs.HartValues.{no_rings}
-use Rattle.cove_base.specs.Places.{all_words, answered_word, count_word}
-use Rattle.cove_base.specs.Scripts.{ScriptValue}
-use Rattle.cove_base.specs.declared.events.Entry.{Entry}
+use Rattle.cove_model.specs.Machine.{no_rings, all_words, answered_word, count_word, ScriptValue, Entry, tlb}
 use Rattle.cove_board.specs.Parts.{HartPart, MonitorPart, counted_monitor, counted_part, holding_of, loaded_part, stored_monitor, stored_part}
 use Rattle.cove_board.specs.Passes.{AreHeld}
 use Rattle.cove_board.specs.Ruled.{IsMonitor, IsPart, Lives}
 use Rattle.cove_model.proofs.AtTheEnd.{own_same}
 use Rattle.cove_model.specs.BoardRule.{IsLive}
 use Rattle.cove_model.specs.Fits.{rings_of, walked_rings}
-use Rattle.cove_model.specs.Translations.{tlb}
 
 -- parts that are right are held, where no store was made and the hart's is unmarked
 pub held_first : (script : ScriptValue) (m : MonitorPart) (p : HartPart) (place word : ℕ) → IsMonitor script m → IsPart script m.history m.now p → m.clean ≡ true → p.mark ≡ false → AreHeld m (loaded_part place word p)

@@ -1,11 +1,7 @@
 -- What each kind of step makes of the parts is right, and it leaves the parts of other harts right.
 use Rattle.std.proofs.Common.{◌≡◌, ◌≢◌, ℕ, ◌<◌, Bool, true, false, cond, eqb, append-nil, append_assoc, List, [], ◌∷◌, ◌++◌, None, get_or, set, refl, sym, ◌∙◌, ap, subst}
 use Rattle.std.proofs.lemmas.Bool.{eqb-false, false≢true}
-use Rattle.cove_base.specs.HartValues.{HartRings, no_rings}
-use Rattle.cove_base.specs.Places.{answered_word}
-use Rattle.cove_base.specs.Scripts.{ScriptValue}
-use Rattle.cove_base.specs.declared.events.Entry.{Entry}
-use Rattle.cove_base.specs.declared.numbers.Page.{Page}
+use Rattle.cove_model.specs.Machine.{HartRings, no_rings, answered_word, ScriptValue, Entry, Page, own, IsLawful}
 use Rattle.cove_board.specs.Parts.{HartPart, MonitorPart, counted_monitor, counted_part, holding_of, loaded_part, new_part, stored_monitor, stored_part, walked_part}
 use Rattle.cove_board.specs.Ruled.{IsMonitor, IsPart, Lives}
 use Rattle.cove_model.proofs.AtTheEnd.{own_other, own_same}
@@ -13,9 +9,7 @@ use Rattle.cove_model.proofs.BoardRuleProofs.{counts_keep_rule, resting_harts_li
 use Rattle.cove_model.proofs.StoreLawProofs.{answers_apart}
 use Rattle.cove_model.proofs.WalkRuleProofs.{walks_keep_rule}
 use Rattle.cove_model.specs.BoardRule.{IsLive, IsMonitored, UnusedLives}
-use Rattle.cove_model.specs.Histories.{own}
 use Rattle.cove_model.specs.LawfulCounts.{IsCountable, counted}
-use Rattle.cove_model.specs.LawfulStores.{IsLawful}
 
 -- ---- what each mark leaves
 

@@ -1,7 +1,6 @@
 -- The rule holds of a new board.
 use Rattle.std.proofs.Common.{◌≡◌, ℕ, IsTrue, List, [], ◌∷◌, zero, suc, replicate, refl, sym, subst, arith}
-use Rattle.cove_base.specs.Places.{all_words}
-use Rattle.cove_base.specs.Scripts.{ScriptValue, is_within_limits}
+use Rattle.cove_model.specs.Machine.{all_words, ScriptValue, is_within_limits}
 use Rattle.cove_board.specs.Parts.{Part, monitor_alone, opening_part}
 use Rattle.cove_board.specs.Ruled.{IsRuled, Sits}
 use Rattle.cove_model.proofs.AloneProofs.{opening_keeps_rule}

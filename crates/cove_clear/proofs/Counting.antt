@@ -3,11 +3,8 @@ use Rattle.std.proofs.Common.{◌≡◌, ◌≢◌, ℕ, zero, suc, ◌+◌, ◌
 use Rattle.std.proofs.lemmas.Bool.{cases_eq, or_left}
 use Rattle.std.proofs.lemmas.List.{get_or-drop, get_or-take, length-drop, length-take}
 use Rattle.std.proofs.lemmas.List.Sums.{get_or-le-sum_by}
-use Rattle.cove_base.specs.PageWords.{given, host}
-use Rattle.cove_base.specs.Places.{hart_word, table_word}
+use Rattle.cove_model.specs.Machine.{given, host, hart_word, table_word, Role, Root, Table, Data, AreOwned, Counts, IsBehindLeaf, IsLawful, IsRoot, LeafNames, AreDistinct, has, without}
 use Rattle.cove_base.specs.Tables.{Slot, InRoot, InMiddle, InLast, IsLeaf, IsLink, IsLinkSlot, IsSlot, IsTree, Names, ByBlocked, ByPresent, below, entry_at, leaf_at, next_table}
-use Rattle.cove_base.specs.declared.numbers.Role.{Role}
-use Rattle.cove_base.specs.declared.numbers.Role.TheVariants.{Root, Table, Data}
 use Rattle.cove_clear.specs.Clearing.{AreCounted, AreGathered, Clears, IsClearable}
 use Rattle.cove_model.proofs.Distinct.{distinct_filter}
 use Rattle.cove_model.proofs.LeafWords.{given_host, none_named}
@@ -15,9 +12,6 @@ use Rattle.cove_model.proofs.Members.{false-true, has_not, has_with}
 use Rattle.cove_model.proofs.OwnedStores.{page_stored, stands_in}
 use Rattle.cove_model.proofs.SharedLeaves.{stores_count_shared}
 use Rattle.cove_model.proofs.SlotStores.{below_named, entries_stay, next_cases}
-use Rattle.cove_model.specs.LawfulStores.{AreOwned, Counts, IsBehindLeaf, IsLawful, IsRoot, LeafNames}
-use Rattle.cove_model.specs.Orderly.{AreDistinct}
-use Rattle.cove_model.specs.Owners.{has, without}
 use Rattle.cove_model.specs.TableLaw.{is_shared_leaf, shared_leaves}
 use Rattle.cove_stage2.proofs.SharedWords.{is_shared}
 

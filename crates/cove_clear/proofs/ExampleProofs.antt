@@ -3,16 +3,12 @@ use Rattle.std.proofs.Common.{◌≡◌, ◌≢◌, ℕ, zero, suc, ◌+◌, ◌
 use Rattle.std.proofs.lemmas.Bool.{cases_eq}
 use Rattle.std.proofs.lemmas.List.{get_or-append_right}
 use Rattle.cove_base.proofs.TreeLemmas.{link-slot}
-use Rattle.cove_base.specs.PageWords.{given, host, released}
-use Rattle.cove_base.specs.Places.{all_words, epoch_word, hart_word, table_word}
+use Rattle.cove_model.specs.Machine.{given, host, released, all_words, epoch_word, hart_word, table_word, Root, Table, Data, AreOwned, ChangesTable, IsLeft, IsRoot, Rewrites, has}
 use Rattle.cove_base.specs.Tables.{Slot, InLast, IsLinkSlot, IsSlot, entry_at, leaf_at, next_table}
-use Rattle.cove_base.specs.declared.numbers.Role.TheVariants.{Root, Table, Data}
 use Rattle.cove_clear.proofs.Zeroing.{one_has}
 use Rattle.cove_clear.specs.Clearing.{AreCounted, AreGathered, Clears, IsBeingCleared, IsClearable, MayBeCleared, Proceeds}
 use Rattle.cove_model.proofs.LeafWords.{none_named}
 use Rattle.cove_model.proofs.Lists.{replicate_zero}
-use Rattle.cove_model.specs.LawfulStores.{AreOwned, ChangesTable, IsLeft, IsRoot, Rewrites}
-use Rattle.cove_model.specs.Owners.{has}
 use Rattle.cove_model.specs.TableExamples.{entered_words, rooted}
 use Rattle.cove_model.specs.TableLaw.{shared_leaves}
 use Rattle.cove_stage2.proofs.ZeroLemmas.{empty-entries, empty-tree}

@@ -2,19 +2,14 @@
 use Rattle.std.proofs.Common.{◌≡◌, ◌≢◌, ℕ, ◌+◌, ◌-◌, ◌*◌, ◌/◌, ◌%◌, ◌^◌, ◌<◌, ◌≤◌, ◌∙◌, Bool, true, false, eqb, eq-eqb, List, [], ◌∷◌, ◌++◌, get_or, length, length-append, length-set, set, refl, sym, ap, subst, inl, inr, arith, get_or-set_other, get_or-set_same}
 use Rattle.std.proofs.lemmas.Bool.{cases_eq, ne_eqb}
 use Rattle.cove_base.proofs.TreeLemmas.{entry-stands, link-slot, middle≢last, named-outside, root≢last, stands-within}
-use Rattle.cove_base.specs.PageWords.{given, host}
-use Rattle.cove_base.specs.Places.{table_word}
+use Rattle.cove_model.specs.Machine.{given, host, table_word, PAGE_LIMIT, Role, Root, Table, IsLawful, IsTableOf}
 use Rattle.cove_base.specs.Tables.{Slot, InRoot, InMiddle, InLast, IsLeaf, IsLink, NoTable, ATable, IsLinkSlot, IsSlot, Names, ByBlocked, ByPresent, StandsAt, entry_at, leaf_at, next_table}
-use Rattle.cove_base.specs.declared.limits.TheConstants.{PAGE_LIMIT}
-use Rattle.cove_base.specs.declared.numbers.Role.{Role}
-use Rattle.cove_base.specs.declared.numbers.Role.TheVariants.{Root, Table}
 use Rattle.cove_clear.proofs.Counting.{count_lawful, few_pages, link_same, now_clears, now_counted, now_gathered, now_open}
 use Rattle.cove_clear.proofs.Zeroing.{IsUnder, counts_stay, next_clears, next_open, next_other, next_shares, page_stays, shared_gathered, taken_gathered, zero_lawful}
 use Rattle.cove_clear.specs.Clearing.{AreGathered, Clears, Goes, IsBeingCleared, IsClearable, KeepsLinkSlots, LinksEmpty, MapsThere, MayBeCleared, Proceeds}
 use Rattle.cove_model.proofs.LeafWords.{given_host}
 use Rattle.cove_model.proofs.OwnedStores.{stands_in}
 use Rattle.cove_model.proofs.SlotStores.{below_named}
-use Rattle.cove_model.specs.LawfulStores.{IsLawful, IsTableOf}
 use Rattle.cove_model.specs.TableLaw.{is_shared_leaf, shared_leaves, shared_once}
 use Rattle.cove_stage2.proofs.LawfulLemmas.{leads_on}
 use Rattle.cove_stage2.proofs.SharedWords.{is_shared, not_shared, once_is}

@@ -3,10 +3,8 @@ use Rattle.std.proofs.Common.{◌≡◌, ◌≢◌, ℕ, ◌+◌, ◌*◌, ◌/�
 use Rattle.std.proofs.lemmas.Bool.{cases_Bool, cases_eq, or_cases, or_left}
 use Rattle.cove_base.proofs.TableLemmas.{below-absent, below-table}
 use Rattle.cove_base.proofs.TreeLemmas.{entry-stands, last-number, link-slot, middle≢last, root≢last, root≢middle, slot-cases, stand-apart}
-use Rattle.cove_base.specs.PageWords.{given}
-use Rattle.cove_base.specs.Places.{hart_word, table_word}
+use Rattle.cove_model.specs.Machine.{given, hart_word, table_word, Table, Data, AreOwned, ChangesTable, IsLawful, IsRoot, IsTableOf, Rewrites, has}
 use Rattle.cove_base.specs.Tables.{Slot, InRoot, InMiddle, InLast, IsAbsent, IsLeaf, IsLink, NoTable, ATable, IsLinkSlot, IsSlot, IsTree, Names, ByBlocked, ByPresent, StandsAt, below, entry_at, leaf_at, next_table}
-use Rattle.cove_base.specs.declared.numbers.Role.TheVariants.{Table, Data}
 use Rattle.cove_clear.specs.Clearing.{AreCounted, AreGathered, Clears, IsClearable}
 use Rattle.cove_model.proofs.Distinct.{distinct_append, has_left, has_right}
 use Rattle.cove_model.proofs.GuestStores.{zero_moves, zeros_keep_owned}
@@ -14,8 +12,6 @@ use Rattle.cove_model.proofs.LeafWords.{blocked_named, given_role, none_named, p
 use Rattle.cove_model.proofs.Members.{has_append}
 use Rattle.cove_model.proofs.OwnedStores.{IsOwnPlace, stands_in}
 use Rattle.cove_model.proofs.SharedLeaves.{stores_count_shared}
-use Rattle.cove_model.specs.LawfulStores.{AreOwned, ChangesTable, IsLawful, IsRoot, IsTableOf, Rewrites}
-use Rattle.cove_model.specs.Owners.{has}
 use Rattle.cove_model.specs.TableLaw.{shared_leaves, shared_once}
 
 -- a slot stands in the table that another names

@@ -1,11 +1,7 @@
 -- What is kept stands on the script's board, and is ready for a call.
 use Rattle.std.proofs.Common.{ℕ, ◌^◌, ◌<◌, ◌≤◌, List, length, get_or, sym, subst, ◌∙◌, arith}
-use Rattle.cove_base.specs.declared.events.Entry.{Entry}
-use Rattle.cove_base.specs.declared.events.Event.{Event}
-use Rattle.cove_base.specs.declared.limits.TheConstants.{PAGE_LIMIT, HART_LIMIT, ENTRY_LIMIT}
+use Rattle.cove_model.specs.Machine.{Entry, Event, PAGE_LIMIT, HART_LIMIT, ENTRY_LIMIT, IsPageWord, ScriptValue, Legal, after, done, FencesWithin, maps_of}
 use Rattle.cove_base.proofs.ScriptLimits.{Limits}
-use Rattle.cove_base.specs.PageWords.{IsPageWord}
-use Rattle.cove_base.specs.Scripts.{ScriptValue}
 use Rattle.cove_core.specs.Kept.{IsBoard, IsKept}
 use Rattle.cove_core.specs.declared.monitors.Mon.{Mon}
 use Rattle.cove_tvm.specs.Called.{IsMet, IsReady}
@@ -16,10 +12,7 @@ use Rattle.cove_model.proofs.Ordering.{orderly}
 use Rattle.cove_model.proofs.Running.{seated}
 use Rattle.cove_model.proofs.SharedLeaves.{stores_count_shared}
 use Rattle.cove_model.proofs.ToldProofs.{words_are_words}
-use Rattle.cove_model.specs.Histories.{Legal, after}
-use Rattle.cove_model.specs.Steps.{done}
 use Rattle.cove_model.specs.WordLaws.{Stand}
-use Rattle.cove_model.specs.WordsStand.{FencesWithin, maps_of}
 use Rattle.cove_tvm.specs.Stands.{Stands}
 use Rattle.cove_tvm.specs.declared.ground.Ground.{Ground}
 

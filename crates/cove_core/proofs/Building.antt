@@ -2,10 +2,7 @@
 use Rattle.std.proofs.Common.{◌≡◌, ℕ, ◌<◌, List, [], None, IfSome, inl, inr, replicate, slice_get, ap, arith, refl}
 use Rattle.std.proofs.lemmas.Bool.{cases_lt}
 use Rattle.std.proofs.lemmas.Option.{IfSome_then, slice_get_past}
-use Rattle.cove_base.specs.HartValues.{HartValue}
-use Rattle.cove_base.specs.Places.{all_words}
-use Rattle.cove_base.specs.Scripts.{ScriptValue}
-use Rattle.cove_base.specs.declared.events.Entry.{Entry}
+use Rattle.cove_model.specs.Machine.{HartValue, all_words, ScriptValue, Entry}
 use Rattle.cove_core.proofs.Opening.{opening_fits, opening_kept, opening_progress}
 use Rattle.cove_core.specs.Plays.{IsUnplayed, HartFits}
 use Rattle.cove_core.specs.Seats.{AreNew, AtFirstLines, IsNew}

@@ -2,11 +2,8 @@
 use Rattle.std.proofs.Common.{◌≡◌, ◌≢◌, ◌<◌, ℕ, false, List, [], ◌∷◌, ◌++◌, Option, None, Some, IsSome, refl, sym, subst, ap, ◌∙◌, ⊎_elim}
 use Rattle.std.proofs.lemmas.Bool.{false≢true, or_parts}
 use Rattle.cove_base.proofs.ScriptLimits.{Limits}
-use Rattle.cove_base.specs.HartValues.{HartRings, HartValue}
+use Rattle.cove_model.specs.Machine.{HartRings, HartValue, ScriptValue, Entry, Page, IsQuietAt, WasFound, Legal, after, has, holder, page_at, Tlb, tlb}
 use Rattle.cove_base.specs.Rings.{found}
-use Rattle.cove_base.specs.Scripts.{ScriptValue}
-use Rattle.cove_base.specs.declared.events.Entry.{Entry}
-use Rattle.cove_base.specs.declared.numbers.Page.{Page}
 use Rattle.cove_core.specs.Made.{IsClear}
 use Rattle.cove_core.proofs.Performing.{ring_lacks}
 use Rattle.cove_model.proofs.AtTheEnd.{each_last, tlb_other}
@@ -16,11 +13,7 @@ use Rattle.cove_model.proofs.Histories.{legal_quiet}
 use Rattle.cove_model.proofs.Holding.{held_since}
 use Rattle.cove_model.proofs.UsingPages.{use_holder}
 use Rattle.cove_model.specs.BoardRule.{HasFound}
-use Rattle.cove_model.specs.Cached.{IsQuietAt, WasFound}
 use Rattle.cove_model.specs.Fits.{Fits, rings_of}
-use Rattle.cove_model.specs.Histories.{Legal, after}
-use Rattle.cove_model.specs.Owners.{has, holder, page_at}
-use Rattle.cove_model.specs.Translations.{Tlb, tlb}
 
 not_some : (o : Option Page) → (IsSome o → ⊥) → o ≡ None
 not_some None never = refl

@@ -3,14 +3,7 @@ use Rattle.std.proofs.Common.{◌≡◌, ℕ, ◌+◌, ◌<◌, ◌≤◌, ◌�
 use Rattle.std.proofs.lemmas.Bool.{cases_eq}
 use Rattle.std.proofs.lemmas.List.{length_push}
 use Rattle.cove_base.specs.HartPlaces.{IsNextPlace}
-use Rattle.cove_base.specs.HartValues.{HartValue}
-use Rattle.cove_base.specs.Places.{count_word, epoch_word, tvm_word, all_words}
-use Rattle.cove_base.specs.Scripts.{ScriptValue}
-use Rattle.cove_base.specs.declared.events.Entry.{Entry}
-use Rattle.cove_base.specs.declared.calls.HostCall.{HostCall}
-use Rattle.cove_base.specs.declared.events.Event.{Event}
-use Rattle.cove_base.specs.declared.statuses.Reply.{Reply}
-use Rattle.cove_model.specs.Answers.{state_after}
+use Rattle.cove_model.specs.Machine.{HartValue, count_word, epoch_word, tvm_word, all_words, ScriptValue, Entry, HostCall, Event, Reply, state_after, next_line, IsReached, after, entry_by, State, ended_by, after_event, done, renewed, tlb, FencesWithin}
 use Rattle.cove_core.proofs.BoardLemmas.{at_script}
 use Rattle.cove_core.proofs.GroundSteps.{count_stands, line_stands}
 use Rattle.cove_core.specs.Kept.{IsKept, ProgressStands}
@@ -18,21 +11,13 @@ use Rattle.cove_core.specs.Made.{IsPerformed}
 use Rattle.cove_core.specs.declared.monitors.Mon.{Mon}
 use Rattle.cove_model.proofs.AtTheEnd.{after_push, each_push, ended_other, ended_own, from_end, legal_push}
 use Rattle.cove_model.proofs.Lists.{replicate_zero}
-use Rattle.cove_base.specs.HartLines.{next_line}
 use Rattle.cove_model.proofs.Beginning.{outside_due}
 use Rattle.cove_model.proofs.Boards.{board_of}
 use Rattle.cove_model.proofs.Fitting.{fits_entered}
 use Rattle.cove_model.proofs.Unbuilt.{all_outside, done_leaves_outside, ended_line, outside_after}
-use Rattle.cove_model.specs.Cached.{IsReached}
 use Rattle.cove_model.specs.Fits.{Fits, InsideFits, rings_of}
-use Rattle.cove_model.specs.Histories.{after}
 use Rattle.cove_model.specs.LawfulCounts.{IsCountable}
-use Rattle.cove_model.specs.Played.{entry_by}
-use Rattle.cove_model.specs.States.{State, ended_by}
-use Rattle.cove_model.specs.Steps.{after_event, done}
-use Rattle.cove_model.specs.Translations.{renewed, tlb}
 use Rattle.cove_model.specs.WordLaws.{Stand}
-use Rattle.cove_model.specs.WordsStand.{FencesWithin}
 use Rattle.cove_tvm.specs.Stands.{Stands}
 use Rattle.cove_tvm.specs.declared.ground.Ground.{Ground}
 

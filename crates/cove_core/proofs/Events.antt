@@ -2,20 +2,11 @@
 use Rattle.std.proofs.Common.{◌≡◌, ◌≢◌, ℕ, ◌+◌, ◌<◌, ◌≤◌, ◌⊎◌, Bool, true, false, cond, List, [], Option, None, Some, get_or, set, length, inl, inr, refl, sym, subst, ap, ◌∙◌, arith, get_or-set_other, get_or-set_same, length-set}
 use Rattle.std.proofs.lemmas.Bool.{cases_eq, cases_lt, false≢true}
 use Rattle.std.proofs.lemmas.Option.{none-some}
-use Rattle.cove_base.specs.HartLines.{next_line}
-use Rattle.cove_base.specs.HartValues.{HartRings, HartValue, accessed_page}
-use Rattle.cove_base.specs.Scripts.{ScriptValue}
-use Rattle.cove_base.specs.declared.calls.HostCall.{HostCall}
+use Rattle.cove_model.specs.Machine.{next_line, HartRings, HartValue, accessed_page, ScriptValue, HostCall, Entry, Event, Line, ScriptLine, Reply, Target, How, Hit, Walk, Keeps, rule, line_offer, ReachesWhere, reply_to, after, Owner, Host, Converting, Free, Given, change, may_use, page_at, word_stored, words_of, State, page_of, word_place, word_at, Takes, host_done, Tlb, emptied_by, forgets_outside, host_touched, tlb, with_touched, FrameStands, FramesStand, PageStands, is_table, maps_of}
 use Rattle.cove_base.specs.declared.calls.HostCall.TheVariants as calls
-use Rattle.cove_base.specs.declared.events.Entry.{Entry}
-use Rattle.cove_base.specs.declared.events.Event.{Event}
 use Rattle.cove_base.specs.declared.events.Event.TheVariants as events
-use Rattle.cove_base.specs.declared.scripts.Line.{Line}
 use Rattle.cove_base.specs.declared.scripts.Line.TheVariants as lines
-use Rattle.cove_base.specs.declared.scripts.ScriptLine.{ScriptLine}
-use Rattle.cove_base.specs.declared.statuses.Reply.{Reply}
 use Rattle.cove_base.specs.declared.walks.Noted.{Noted}
-use Rattle.cove_base.specs.declared.walks.Target.{Target}
 use Rattle.cove_base.specs.declared.events.Walked.{Walked}
 use Rattle.cove_base.specs.declared.events.Walked.TheVariants as walks
 use Rattle.cove_core.specs.Made.{IsTold}
@@ -23,24 +14,12 @@ use Rattle.cove_core.specs.Reached.{load_event, rings_left, store_event as store
 use Rattle.cove_core.specs.declared.accesses.Reach.{Reach}
 use Rattle.cove_core.specs.declared.accesses.Reach.TheVariants as reach
 use Rattle.cove_core.proofs.Performing.{IsReachedRightly, IsToldBy, MayReach, aim_is}
-use Rattle.cove_base.specs.declared.events.How.{How}
-use Rattle.cove_base.specs.declared.events.How.TheVariants.{Hit, Walk}
 use Rattle.cove_model.proofs.Offering.{aim_of_none}
-use Rattle.cove_model.specs.HostCalls.{Keeps, rule}
-use Rattle.cove_model.specs.Offers.{line_offer}
 use Rattle.cove_mem.specs.Frames.{frame, with_word}
 use Rattle.cove_model.proofs.Runs.{change_cases, change_inside, change_outside, length_change}
-use Rattle.cove_model.specs.Cached.{ReachesWhere}
-use Rattle.cove_model.specs.Answers.{reply_to}
 use Rattle.cove_model.specs.Fits.{Fits, IsSought, UnusedFits, WalkFits, rings_of, walked_rings}
-use Rattle.cove_model.specs.Histories.{after}
-use Rattle.cove_model.specs.Owners.{Owner, Host, Converting, Free, Given, change, may_use, page_at, word_stored, words_of}
-use Rattle.cove_model.specs.States.{State, page_of, word_place, word_at}
-use Rattle.cove_model.specs.Steps.{Takes, host_done}
 use Rattle.cove_base.specs.Statuses.{is_success}
-use Rattle.cove_model.specs.Translations.{Tlb, emptied_by, forgets_outside, host_touched, tlb, with_touched}
 use Rattle.cove_model.specs.WordLaws.{Stand}
-use Rattle.cove_model.specs.WordsStand.{FrameStands, FramesStand, PageStands, is_table, maps_of}
 
 -- what an event of a hart outside is, beside the words and the frames that it leaves
 pub record IsRightly (script : ScriptValue) (H : List Entry) (h : ℕ) (line : Line) (rings : HartRings) (event : Event) : Type 0 where

@@ -12,13 +12,11 @@ use Rattle.std.proofs.lemmas.List.FromFn.{get_or-map-range_with_len, length-map-
 use Rattle.std.proofs.lemmas.Nat.{le_bytes_8}
 use Rattle.std.specs.List.{range_with_len}
 use Rattle.cove_base.proofs.ScriptLimits.{limits_of}
-use Rattle.cove_base.specs.Scripts.{ScriptValue, is_fill, is_within_limits}
-use Rattle.cove_base.specs.declared.scripts.Fill.{Fill}
+use Rattle.cove_model.specs.Machine.{ScriptValue, is_fill, is_within_limits, Fill, byte_after, opening, opening_byte, FramesStand}
 use Rattle.cove_core.specs.Bytes.{FramesShow, with_byte_at}
 use Rattle.cove_mem.specs.Frames.{frame, with_word, zero_frame}
 use Rattle.cove_model.proofs.Runs.{opening_length, opening_page, opening_size}
-use Rattle.cove_model.specs.States.{byte_after, opening, opening_byte, opening_words}
-use Rattle.cove_model.specs.WordsStand.{FramesStand}
+use Rattle.cove_model.specs.States.{opening_words}
 
 -- ---- bytes of a run of addresses
 

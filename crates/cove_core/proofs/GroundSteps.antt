@@ -1,6 +1,6 @@
 -- What an ended line, the count and a store leave standing of words and ground.
 use Rattle.std.proofs.Common.{◌≡◌, ◌≢◌, ℕ, ◌<◌, List, Option, Some, None, get_or, set, length, refl, sym, ◌∙◌, arith, get_or-set_other, length-set}
-use Rattle.cove_base.specs.Places.{count_word}
+use Rattle.cove_model.specs.Machine.{count_word, Seat, State, page_of, word_place, end_line, host_done, line_ended, FramesStand}
 use Rattle.cove_core.proofs.Events.{store_frames, store_stands}
 use Rattle.cove_core.proofs.Performing.{MayReach}
 use Rattle.cove_core.specs.Reached.{frames_by, store_event as stored_event}
@@ -8,10 +8,7 @@ use Rattle.cove_core.specs.declared.accesses.Reach.{Reach}
 use Rattle.cove_core.specs.declared.accesses.Reach.TheVariants as reach
 use Rattle.cove_mem.specs.Frames.{with_word}
 use Rattle.cove_model.proofs.BesideProofs.{count_leaves_words}
-use Rattle.cove_model.specs.States.{Seat, State, page_of, word_place}
-use Rattle.cove_model.specs.Steps.{end_line, host_done, line_ended}
 use Rattle.cove_model.specs.WordLaws.{Stand}
-use Rattle.cove_model.specs.WordsStand.{FramesStand}
 use Rattle.cove_tvm.proofs.KeptGround.{owners_change_stands}
 use Rattle.cove_tvm.specs.GroundLaws.{KeepsTvms}
 use Rattle.cove_tvm.specs.Leaves.{LeavesEveryTvm}

@@ -2,11 +2,10 @@
 use Rattle.std.proofs.Common.{◌≡◌, ◌+◌, ◌≤◌, length, [], ◌∷◌, ◌++◌, set, sym, ap, subst, ◌∙◌, arith}
 use Rattle.cove_core.proofs.BoardLemmas.{kept_stand}
 use Rattle.cove_core.specs.KeptRule.{KeptHartsLive, KeptHartsUse, KeptIsBounded, KeptIsMonitored, StepsKeepLive}
-use Rattle.cove_base.specs.Places.{count_word}
+use Rattle.cove_model.specs.Machine.{count_word, number_in}
 use Rattle.cove_model.proofs.BoardRuleProofs.{counts_keep_rule, fitting_harts_live, fitting_harts_use, lists_keep_rule}
 use Rattle.cove_model.specs.BoardRule.{IsLive}
 use Rattle.cove_model.specs.LawfulCounts.{counted}
-use Rattle.cove_model.specs.WordsStand.{number_in}
 
 pub kept_is_monitored : KeptIsMonitored
 kept_is_monitored script words mon kept = record {

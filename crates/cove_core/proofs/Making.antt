@@ -5,16 +5,8 @@ use Rattle.std.proofs.lemmas.List.{length_push}
 use Rattle.cove_base.proofs.HartPlaceLemmas.{line_at_place}
 use Rattle.cove_base.proofs.ScriptLimits.{limits_of, line_page, Limits}
 use Rattle.cove_base.specs.declared.numbers.HartId.{HartId}
-use Rattle.cove_base.specs.HartLines.{next_line}
-use Rattle.cove_base.specs.HartValues.{HartRings, HartValue, accessed_page}
-use Rattle.cove_base.specs.Places.{count_word}
-use Rattle.cove_base.specs.Scripts.{ScriptValue, is_within_limits}
-use Rattle.cove_base.specs.declared.events.Entry.{Entry}
-use Rattle.cove_base.specs.declared.events.Event.{Event}
-use Rattle.cove_base.specs.declared.limits.TheConstants.{ENTRY_LIMIT}
-use Rattle.cove_base.specs.declared.scripts.Line.{Line}
+use Rattle.cove_model.specs.Machine.{next_line, HartRings, HartValue, accessed_page, count_word, ScriptValue, is_within_limits, Entry, Event, ENTRY_LIMIT, Line, ScriptLine, Legal, after, AllowsLawful, IsLawful, MakesLawful, first_behind, line_offer, offer, entry_by, page_of, word_place, Takes, host_done, host_touched, tlb, ReachesWhere, FencesWithin}
 use Rattle.cove_base.specs.declared.scripts.Line.TheVariants as lines
-use Rattle.cove_base.specs.declared.scripts.ScriptLine.{ScriptLine}
 use Rattle.cove_core.specs.Kept.{IsKept}
 use Rattle.cove_core.specs.Made.{IsMade, IsPerformed, IsTold}
 use Rattle.cove_core.specs.Reached.{CanDo, IsDone, IsPrepared, IsReachable, load_event, store_event as stored_event}
@@ -35,15 +27,6 @@ use Rattle.cove_model.proofs.Offering.{offered}
 use Rattle.cove_model.proofs.Unbuilt.{all_outside, done_outside, renewed_outside, touched_outside}
 use Rattle.cove_model.proofs.Fitting.{fits_other}
 use Rattle.cove_model.specs.Fits.{Fits, rings_of}
-use Rattle.cove_model.specs.Histories.{Legal, after}
-use Rattle.cove_model.specs.LawfulStores.{AllowsLawful, IsLawful, MakesLawful}
-use Rattle.cove_model.specs.Offers.{first_behind, line_offer, offer}
-use Rattle.cove_model.specs.Played.{entry_by}
-use Rattle.cove_model.specs.States.{page_of, word_place}
-use Rattle.cove_model.specs.Steps.{Takes, host_done}
-use Rattle.cove_model.specs.Translations.{host_touched, tlb}
-use Rattle.cove_model.specs.Cached.{ReachesWhere}
-use Rattle.cove_model.specs.WordsStand.{FencesWithin}
 use Rattle.cove_tvm.specs.Stands.{Stands}
 use Rattle.cove_tvm.specs.declared.ground.Ground.{Ground}
 

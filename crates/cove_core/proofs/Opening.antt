@@ -1,14 +1,10 @@
 -- At the opening the empty history is kept, and each hart of the board fits it.
 use Rattle.std.proofs.Common.{◌≡◌, ℕ, ◌<◌, List, [], None, get_or, length, replicate, refl, sym, arith}
-use Rattle.cove_base.specs.HartValues.{no_rings}
+use Rattle.cove_model.specs.Machine.{no_rings, all_words, count_word, epoch_word, tvm_word, ScriptValue, ended_by, opening, epoch_in}
 use Rattle.cove_base.specs.HartPlaces.{IsNextPlace}
-use Rattle.cove_base.specs.Places.{all_words, count_word, epoch_word, tvm_word}
-use Rattle.cove_base.specs.Scripts.{ScriptValue}
 use Rattle.cove_core.specs.Kept.{IsKept, ProgressStands}
 use Rattle.cove_model.proofs.Lists.{replicate_zero}
 use Rattle.cove_model.specs.Fits.{Fits}
-use Rattle.cove_model.specs.States.{ended_by, opening}
-use Rattle.cove_model.specs.WordsStand.{epoch_in}
 use Rattle.cove_tvm.proofs.NewGround.{ground_opens}
 use Rattle.cove_tvm.specs.GroundLaws.{IsNewGround}
 use Rattle.cove_tvm.specs.declared.ground.Ground.{Ground}

@@ -5,20 +5,11 @@ use Rattle.std.proofs.lemmas.List.{length_push}
 use Rattle.cove_core.specs.Made.{IsWithinReach}
 use Rattle.std.proofs.lemmas.Option.{same_Some}
 use Rattle.cove_base.proofs.ScriptLimits.{Limits}
-use Rattle.cove_base.specs.HartLines.{next_line}
-use Rattle.cove_base.specs.HartValues.{HartRings, HartValue, accessed_page, has_walked_to, rings_after, rings_with}
-use Rattle.cove_base.specs.PageWords.{IsHostWord}
-use Rattle.cove_base.specs.Places.{page_word}
+use Rattle.cove_model.specs.Machine.{next_line, HartRings, HartValue, accessed_page, has_walked_to, rings_after, rings_with, IsHostWord, page_word, ScriptValue, Entry, Hit, Walk, Page, ScriptLine, Target, Reaches, WasFound, Legal, after, has, is_host, may_use, page_at, State, ended_by, Came, Failed, Tlb, Arrival, filled, holds_target, tlb, with_touched}
 use Rattle.cove_base.specs.Rings.{found, ring_room}
-use Rattle.cove_base.specs.Scripts.{ScriptValue}
-use Rattle.cove_base.specs.declared.events.Entry.{Entry}
-use Rattle.cove_base.specs.declared.events.How.TheVariants.{Hit, Walk}
 use Rattle.cove_base.specs.declared.events.Walked.{Walked}
 use Rattle.cove_base.specs.declared.events.Walked.TheVariants as walks
-use Rattle.cove_base.specs.declared.numbers.Page.{Page}
-use Rattle.cove_base.specs.declared.scripts.ScriptLine.{ScriptLine}
 use Rattle.cove_base.specs.declared.walks.Noted.{Noted}
-use Rattle.cove_base.specs.declared.walks.Target.{Target}
 use Rattle.cove_base.specs.declared.walks.Target.TheVariants as targets
 use Rattle.cove_core.specs.Reached.{HasUnusedWalk, ComesTo, finds_page}
 use Rattle.cove_core.specs.declared.accesses.Reach.{Reach}
@@ -33,12 +24,7 @@ use Rattle.cove_model.proofs.Holding.{found_able, held_since, holds_able}
 use Rattle.cove_model.proofs.Offering.{aim_of_page}
 use Rattle.cove_model.proofs.Unbuilt.{outside_after}
 use Rattle.cove_model.specs.Aims.{aimed_at, line_aim, next_aim}
-use Rattle.cove_model.specs.Cached.{Reaches, WasFound}
 use Rattle.cove_model.specs.Fits.{Fits, IsSought, UnusedFits, WalkFits, page_for, pairs_of, ring_of, rings_of, walked_rings}
-use Rattle.cove_model.specs.Histories.{Legal, after}
-use Rattle.cove_model.specs.Owners.{has, is_host, may_use, page_at}
-use Rattle.cove_model.specs.States.{State, ended_by}
-use Rattle.cove_model.specs.Translations.{Came, Failed, Tlb, Arrival, filled, holds_target, tlb, with_touched}
 use Rattle.cove_model.specs.WordLaws.{Stand}
 
 -- by which way an access came to what was reached, and whether it may come to that

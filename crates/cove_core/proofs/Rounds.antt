@@ -3,8 +3,7 @@ use Rattle.std.proofs.Common.{◌≡◌, ◌≢◌, ℕ, zero, suc, ◌+◌, ◌
 use Rattle.std.specs.List.{AllByRecursion, range_with_len}
 use Rattle.std.proofs.lemmas.Bool.{cases_eq, false≢true}
 use Rattle.std.proofs.lemmas.List.{length-set}
-use Rattle.cove_base.specs.Scripts.{ScriptValue}
-use Rattle.cove_base.specs.declared.limits.TheConstants.{ENTRY_LIMIT}
+use Rattle.cove_model.specs.Machine.{ScriptValue, ENTRY_LIMIT, Play, Unwalked, enough, round, rounds, turn, unplayed, harts_below}
 use Rattle.cove_core.specs.Kept.{IsKept}
 use Rattle.cove_core.specs.Plays.{AreReady, AreRounds, Changes, GoesOn, IsAt, HartFits, IsTurn, IsTurned, Stays, named_play, note_of}
 use Rattle.cove_core.specs.declared.monitors.Mon.{Mon}
@@ -13,8 +12,7 @@ use Rattle.cove_hart.specs.declared.states.HartState.{HartState}
 use Rattle.cove_model.proofs.Playing.{rounds_stay}
 use Rattle.cove_model.proofs.Progress.{notes_le, rounds_size, turn_work, turns_size, turns_work, work}
 use Rattle.cove_model.proofs.Sums.{harts_are_below}
-use Rattle.cove_model.specs.Played.{Play, Unwalked, enough, played, round, rounds, turn, unplayed}
-use Rattle.cove_model.specs.States.{harts_below}
+use Rattle.cove_model.specs.Played.{played}
 
 -- ---- a list with one item changed
 

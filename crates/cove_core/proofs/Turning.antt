@@ -1,30 +1,17 @@
 -- What a hart does in its turn is the turn of each play that has its history and its note.
 use Rattle.std.proofs.Common.{◌≡◌, ℕ, ◌<◌, ◌≤◌, Bool, true, false, cond, ◌||◌, ◌⊎◌, nat_lt, is_some, IsTrue, IsSome, IfSome, IfNone, arith, List, [], ◌∷◌, ◌++◌, Option, None, Some, inl, inr, ◌↔◌, length, get_or, slice_get, refl, sym, subst, ap, ◌∙◌}
 use Rattle.std.proofs.lemmas.Bool.{cases_lt, cond-false, cond-true, false≢true, lt-ltb, ltb-true}
-use Rattle.cove_base.specs.declared.walks.Target.{Target}
+use Rattle.cove_model.specs.Machine.{Target, next_line, HartRings, HartValue, accessed_page, has_walked_to, IsHostWord, page_word, ScriptValue, is_within_limits, Entry, Event, How, Hit, Walk, ENTRY_LIMIT, Page, Line, ScriptLine, IsReached, Reaches, ReachesWhere, EachEntry, Legal, after, Behind, Nothing, Offer, Touch, first_behind, host_target, line_offer, offer, outside_offer, sought, target_of, has, is_host, page_at, Note, Play, Unwalked, WalkFound, WalkMissed, ended_event, ending, entered, entry_by, entry_turn, noted, sought_turn, turn, walked, walks_first, State, ended_by, page_of, word_at, Allows, Takes, Came, Failed, Arrival, host_touched, tlb, touched}
 use Rattle.std.proofs.lemmas.List.{length_push}
 use Rattle.std.proofs.lemmas.Option.{same_Some}
 use Rattle.cove_base.proofs.HartPlaceLemmas.{line_at_place}
 use Rattle.cove_base.proofs.ScriptLimits.{limits_of, line_page, Limits}
-use Rattle.cove_base.specs.HartLines.{next_line}
-use Rattle.cove_base.specs.HartValues.{HartRings, HartValue, accessed_page, has_walked_to}
-use Rattle.cove_base.specs.PageWords.{IsHostWord}
-use Rattle.cove_base.specs.Places.{page_word}
 use Rattle.cove_base.specs.Rings.{found}
-use Rattle.cove_base.specs.Scripts.{ScriptValue, is_within_limits}
-use Rattle.cove_base.specs.declared.events.Entry.{Entry}
-use Rattle.cove_base.specs.declared.events.Event.{Event}
 use Rattle.cove_base.specs.declared.events.Event.TheVariants as events
-use Rattle.cove_base.specs.declared.events.How.{How}
-use Rattle.cove_base.specs.declared.events.How.TheVariants.{Hit, Walk}
 use Rattle.cove_base.specs.declared.events.Walked.{Walked}
 use Rattle.cove_base.specs.declared.events.Walked.TheVariants as walks
-use Rattle.cove_base.specs.declared.limits.TheConstants.{ENTRY_LIMIT}
 use Rattle.cove_base.specs.declared.numbers.HartId.{HartId}
-use Rattle.cove_base.specs.declared.numbers.Page.{Page}
-use Rattle.cove_base.specs.declared.scripts.Line.{Line}
 use Rattle.cove_base.specs.declared.scripts.Line.TheVariants as lines
-use Rattle.cove_base.specs.declared.scripts.ScriptLine.{ScriptLine}
 use Rattle.cove_base.specs.declared.walks.Noted.{Noted}
 use Rattle.cove_base.specs.declared.walks.Target.TheVariants as targets
 use Rattle.cove_core.proofs.BoardLemmas.{kept_page_words, kept_stand}
@@ -46,15 +33,7 @@ use Rattle.cove_model.proofs.Offering.{aim_of_page, due, offered, offered_behind
 use Rattle.cove_model.proofs.Unbuilt.{all_outside, offer_outside, touched_outside}
 use Rattle.cove_model.proofs.Playing.{noted_other, noted_same, turn_full}
 use Rattle.cove_model.proofs.ToldProofs.{words_tell_host}
-use Rattle.cove_model.specs.Cached.{IsReached, Reaches, ReachesWhere}
 use Rattle.cove_model.specs.Fits.{Fits}
-use Rattle.cove_model.specs.Histories.{EachEntry, Legal, after}
-use Rattle.cove_model.specs.Offers.{Behind, Nothing, Offer, Touch, first_behind, host_target, line_offer, offer, outside_offer, sought, target_of}
-use Rattle.cove_model.specs.Owners.{has, is_host, page_at}
-use Rattle.cove_model.specs.Played.{Note, Play, Unwalked, WalkFound, WalkMissed, ended_event, ending, entered, entry_by, entry_turn, noted, sought_turn, turn, walked, walks_first}
-use Rattle.cove_model.specs.States.{State, ended_by, page_of, word_at}
-use Rattle.cove_model.specs.Steps.{Allows, Takes}
-use Rattle.cove_model.specs.Translations.{Came, Failed, Arrival, host_touched, tlb, touched}
 use Rattle.cove_model.specs.WordLaws.{Stand}
 
 -- how an access ended, by its way

@@ -2,18 +2,12 @@
 use Rattle.std.proofs.Common.{◌≡◌, ℕ, ◌<◌, Bool, true, false, cond, ◌||◌, is_some, IsTrue, List, Option, None, Some, nat_lt, eq-eqb, refl, sym, subst, ap, ◌∙◌}
 use Rattle.std.proofs.lemmas.Bool.{false≢true}
 use Rattle.std.proofs.lemmas.Option.{none-some}
-use Rattle.cove_base.specs.HartLines.{next_line}
+use Rattle.cove_model.specs.Machine.{next_line, HartRings, HartValue, accessed_page, after_walk, has_walked_to, ScriptValue, is_within_limits, Entry, Page, ScriptLine, Target, after, has, is_host, page_at, tlb}
 use Rattle.cove_base.specs.HartPlaces.{IsNextPlace}
-use Rattle.cove_base.specs.HartValues.{HartRings, HartValue, accessed_page, after_walk, has_walked_to}
 use Rattle.cove_base.specs.Rings.{found}
-use Rattle.cove_base.specs.Scripts.{ScriptValue, is_within_limits}
-use Rattle.cove_base.specs.declared.events.Entry.{Entry}
 use Rattle.cove_base.specs.declared.events.Walked.{Walked}
 use Rattle.cove_base.specs.declared.events.Walked.TheVariants as walks
-use Rattle.cove_base.specs.declared.numbers.Page.{Page}
-use Rattle.cove_base.specs.declared.scripts.ScriptLine.{ScriptLine}
 use Rattle.cove_base.specs.declared.walks.Noted.{Noted}
-use Rattle.cove_base.specs.declared.walks.Target.{Target}
 use Rattle.cove_base.specs.declared.walks.Target.TheVariants as targets
 use Rattle.cove_base.proofs.HartPlaceLemmas.{line_at_place}
 use Rattle.cove_base.proofs.ScriptLimits.{line_page}
@@ -35,9 +29,6 @@ use Rattle.cove_core.specs.KeptRule.{NeededWalksLeaveAlone}
 use Rattle.cove_model.proofs.AloneProofs.{fits_fit_alone, walks_leave_alone}
 use Rattle.cove_model.specs.Fits.{Fits, IsSought, rings_of, walked_rings}
 use Rattle.cove_model.specs.FitsAlone.{FitsAlone, UnusedSought}
-use Rattle.cove_model.specs.Histories.{after}
-use Rattle.cove_model.specs.Owners.{has, is_host, page_at}
-use Rattle.cove_model.specs.Translations.{tlb}
 
 -- a walk that is needed is one to the page of the next line, which neither the ring nor an unused walk has
 pub record IsWanted (script : ScriptValue) (held : HartValue) (p : ℕ) : Type 0 where

@@ -1,15 +1,8 @@
 -- What an accepted call leaves that has no value.
 use Rattle.std.proofs.Common.{◌≡◌, ℕ, ◌+◌, ◌≤◌, List, get_or, None, refl, arith}
 use Rattle.cove_base.proofs.StoreLemmas.{length-stored}
-use Rattle.cove_base.specs.Places.{count_word}
-use Rattle.cove_base.specs.Stores.{AllAllowed, stored}
-use Rattle.cove_base.specs.declared.statuses.Status.TheVariants.{Success}
+use Rattle.cove_model.specs.Machine.{count_word, AllAllowed, stored, Success, Rule, IsLawful, first_failing, State, FencesWithin, epoch_in, number_in}
 use Rattle.cove_tvm.specs.Called.{Called, IsMet}
-use Rattle.cove_model.specs.HostCalls.{Rule}
-use Rattle.cove_model.specs.LawfulStores.{IsLawful}
-use Rattle.cove_model.specs.Refusals.{first_failing}
-use Rattle.cove_model.specs.States.{State}
-use Rattle.cove_model.specs.WordsStand.{FencesWithin, epoch_in, number_in}
 use Rattle.cove_tvm.specs.Stands.{Stands}
 use Rattle.cove_tvm.specs.declared.ground.Ground.{Ground}
 

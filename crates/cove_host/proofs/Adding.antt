@@ -3,23 +3,13 @@ use Rattle.std.proofs.Common.{◌≡◌, ◌-◌, ◌+◌, ◌/◌, ◌≤◌, �
 use Rattle.std.proofs.lemmas.Option.{none-some}
 use Rattle.std.specs.Prelude.{unwrap_or}
 use Rattle.cove_base.proofs.StoreLemmas.{AllAllowed-weaker, get_or-fills_other}
-use Rattle.cove_base.specs.PageWords.{given}
-use Rattle.cove_base.specs.Stores.{AllAllowed, stored}
+use Rattle.cove_model.specs.Machine.{given, AllAllowed, stored, Vcpu, Success, AllFree, CpuNumber, IsBuilding, Live, NoCpuYet, WithinMemory, Rule, rule, AllowsLawful, IsLawful, Aligned, Check, IsSeated, State, find_cpu, Cpu, new_tvm}
 use Rattle.cove_base.specs.declared.calls.HostCall.TheVariants.{Vcpu as VcpuCall}
-use Rattle.cove_base.specs.declared.numbers.Role.TheVariants.{Vcpu}
-use Rattle.cove_base.specs.declared.statuses.Status.TheVariants.{Success}
 use Rattle.cove_host.proofs.PassedCalls.{AllPass, passed_call, stands_written}
 use Rattle.cove_host.proofs.PassedChecks.{Gives, gives, may_give}
 use Rattle.cove_host.proofs.CheckedLemmas.{each_passes}
 use Rattle.cove_tvm.specs.Called.{Called, IsReady}
 use Rattle.cove_host.specs.Checked.{all_checked}
-use Rattle.cove_model.specs.Checks.{AllFree, CpuNumber, IsBuilding, Live, NoCpuYet, WithinMemory}
-use Rattle.cove_model.specs.HostCalls.{Rule, rule}
-use Rattle.cove_model.specs.LawfulStores.{AllowsLawful, IsLawful}
-use Rattle.cove_model.specs.Refusals.{Aligned, Check}
-use Rattle.cove_model.specs.Seated.{IsSeated}
-use Rattle.cove_model.specs.States.{State, find_cpu}
-use Rattle.cove_model.specs.Tvms.{Cpu, new_tvm}
 use Rattle.cove_tvm.proofs.NewVcpu.{adding_is_lawful, adding_stands}
 use Rattle.cove_tvm.specs.NewVcpus.{AddsCpu, vcpu_stores}
 use Rattle.cove_tvm.specs.Stands.{Stands}

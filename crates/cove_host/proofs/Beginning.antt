@@ -5,10 +5,8 @@ use Rattle.std.proofs.lemmas.List.{get_or_default}
 use Rattle.std.proofs.lemmas.Option.{none-some}
 use Rattle.std.specs.Prelude.{Contains}
 use Rattle.cove_base.proofs.TreeLemmas.{named-outside}
-use Rattle.cove_base.specs.PageWords.{given, host}
-use Rattle.cove_base.specs.Places.{hart_word}
+use Rattle.cove_model.specs.Machine.{given, host, hart_word, Root, Table, Data, at, AreOwned, IsBehindLeaf, IsLeft, IsRoot, mapping_of, page_under, AreDistinct, IsOrderly, AsData, Converting, Free, Given, Host, Owner, Purpose, has, page_at, IsBacked, IsSound, IsSoundMapping, IsSoundTvm, PageStands, answered_in, epoch_in, maps_of, role_of}
 use Rattle.cove_base.specs.Tables.{Slot, InMiddle, IsLinkSlot, Names, entry_at, leaf_at, next_table, present}
-use Rattle.cove_base.specs.declared.numbers.Role.TheVariants.{Root, Table, Data}
 use Rattle.cove_clear.proofs.Counting.{leaf_counts}
 use Rattle.cove_clear.specs.Clearing.{AreCounted, AreGathered, IsBeingCleared}
 use Rattle.cove_host.specs.HartsInside.{is_inside}
@@ -17,15 +15,8 @@ use Rattle.cove_model.proofs.LeafWords.{blocked_named, given_host, given_role, n
 use Rattle.cove_model.proofs.Lists.{all_at}
 use Rattle.cove_model.proofs.OwnedStores.{one_root}
 use Rattle.cove_model.proofs.StandLemmas.{host_page}
-use Rattle.cove_model.specs.Keyed.{at}
-use Rattle.cove_model.specs.LawfulStores.{AreOwned, IsBehindLeaf, IsLeft, IsRoot}
-use Rattle.cove_model.specs.Mappings.{mapping_of, page_under}
-use Rattle.cove_model.specs.Orderly.{AreDistinct, IsOrderly}
-use Rattle.cove_model.specs.Owners.{AsData, Converting, Free, Given, Host, Owner, Purpose, has, page_at}
-use Rattle.cove_model.specs.Sound.{IsBacked, IsSound, IsSoundMapping, IsSoundTvm}
 use Rattle.cove_model.specs.States.{State as MonitorState, find_tvm, harts_inside}
 use Rattle.cove_model.specs.Tvms.{Backing, HostPage, Mapping, OwnPage, Standing, Blocked, Present, Tvm as ModelTvm}
-use Rattle.cove_model.specs.WordsStand.{PageStands, answered_in, epoch_in, maps_of, role_of}
 use Rattle.cove_tvm.proofs.GivenPages.{given_owner}
 use Rattle.cove_tvm.specs.LeafStands.{LeafStands, StandingStands, leaf_of}
 use Rattle.cove_tvm.specs.Stands.{Stands}

@@ -2,9 +2,8 @@
 use Rattle.std.proofs.Common.{◌≡◌, ◌∙◌, ℕ, zero, suc, Bool, true, false, cond, List, [], ◌∷◌, Option, Some, None, Result, Ok, Err, refl, sym, ap, arith}
 use Rattle.std.proofs.lemmas.Result.{err_from_is_err_and}
 use Rattle.std.specs.Prelude.{IsErrAnd}
-use Rattle.cove_base.specs.declared.statuses.Reply.{Reply}
+use Rattle.cove_model.specs.Machine.{Reply, Check, first_failing}
 use Rattle.cove_host.specs.Checked.{all_checked, checked}
-use Rattle.cove_model.specs.Refusals.{Check, first_failing}
 
 -- the answer of a test that fails, and what comes after one that passes
 abbrev pub Answer : Type 0

@@ -3,11 +3,7 @@ use Rattle.std.proofs.Common.{◌≡◌, ℕ, ◌+◌, ◌/◌, ◌≤◌, List,
 use Rattle.std.proofs.lemmas.Bool.{not-false}
 use Rattle.std.specs.List.{list_any}
 use Rattle.cove_base.proofs.StoreLemmas.{AllAllowed-weaker, get_or-fills_other}
-use Rattle.cove_base.specs.PageWords.{converting}
-use Rattle.cove_base.specs.Places.{count_word}
-use Rattle.cove_base.specs.Stores.{AllAllowed, stored}
-use Rattle.cove_base.specs.declared.calls.HostCall.TheVariants.{Convert}
-use Rattle.cove_base.specs.declared.statuses.Status.TheVariants.{Success}
+use Rattle.cove_model.specs.Machine.{converting, count_word, AllAllowed, stored, Convert, Success, AllHost, NoneShared, WithinMemory, rule, AllowsLawful, IsLawful, every, is_host, Aligned, Check, Count, State, shared_pages, epoch_in}
 use Rattle.cove_host.proofs.AcceptedCalls.{accepts}
 use Rattle.cove_host.proofs.CheckedLemmas.{each_passes, none_fails}
 use Rattle.cove_host.proofs.Creating.{stays_within}
@@ -17,14 +13,7 @@ use Rattle.cove_host.proofs.SharedPages.{in_run, unshared_words}
 use Rattle.cove_tvm.specs.Called.{Called, IsReady}
 use Rattle.cove_host.specs.Checked.{all_checked}
 use Rattle.cove_model.proofs.LawfulProofs.{convert_is_lawful}
-use Rattle.cove_model.specs.Checks.{AllHost, NoneShared, WithinMemory}
-use Rattle.cove_model.specs.HostCalls.{rule}
-use Rattle.cove_model.specs.LawfulStores.{AllowsLawful, IsLawful}
-use Rattle.cove_model.specs.Owners.{every, is_host}
-use Rattle.cove_model.specs.Refusals.{Aligned, Check, Count}
-use Rattle.cove_model.specs.States.{State, shared_pages}
 use Rattle.cove_model.specs.WordLaws.{convert_stores}
-use Rattle.cove_model.specs.WordsStand.{epoch_in}
 use Rattle.cove_tvm.proofs.OwnerCalls.{ground_converts}
 use Rattle.cove_tvm.specs.Stands.{Stands}
 use Rattle.cove_tvm.specs.declared.ground.Ground.{Ground}

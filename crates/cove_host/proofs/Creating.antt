@@ -2,26 +2,14 @@
 use Rattle.std.proofs.Common.{◌≡◌, ℕ, ◌+◌, ◌/◌, ◌<◌, ◌≤◌, ◌⊎◌, ◌∙◌, ◌++◌, ◌&&◌, false, List, [], ◌∷◌, get_or, length, Ok, Err, refl, sym, ap, subst, inl, inr, arith, leb, ltb}
 use Rattle.std.proofs.lemmas.Bool.{and_from, cases_lt, false≢true, le-leb, leb-false, lt-ltb, not-false}
 use Rattle.cove_base.proofs.StoreLemmas.{AllAllowed-split, AllAllowed-weaker, get_or-fills_other, length-stored, stored-append}
-use Rattle.cove_base.specs.PageWords.{given}
-use Rattle.cove_base.specs.Places.{count_word, epoch_word, tvm_word}
-use Rattle.cove_base.specs.Stores.{AllAllowed, fills, stored}
-use Rattle.cove_base.specs.declared.calls.HostCall.TheVariants.{Create, Info}
-use Rattle.cove_base.specs.declared.limits.TheConstants.{ENTRY_LIMIT, TVM_LIMIT}
-use Rattle.cove_base.specs.declared.numbers.Role.TheVariants.{Root, State}
-use Rattle.cove_base.specs.declared.statuses.Reply.{Reply}
-use Rattle.cove_base.specs.declared.statuses.Status.TheVariants.{Success}
+use Rattle.cove_model.specs.Machine.{given, count_word, epoch_word, tvm_word, AllAllowed, fills, stored, Create, Info, ENTRY_LIMIT, TVM_LIMIT, Root, Reply, Success, AllFree, RoomForTvm, RootAligned, StateApart, WithinMemory, Rule, rule, AllowsLawful, IsLawful, every, is_free, Aligned, Check, FencesWithin}
+use Rattle.cove_base.specs.declared.numbers.Role.TheVariants.{State}
 use Rattle.cove_host.proofs.CheckedLemmas.{each_passes, none_fails, one_fails}
 use Rattle.cove_host.proofs.PassedChecks.{inside_passes}
 use Rattle.cove_host.proofs.ReadyWords.{fences_within}
 use Rattle.cove_tvm.specs.Called.{Called, IsReady}
 use Rattle.cove_host.specs.Checked.{all_checked}
-use Rattle.cove_model.specs.Checks.{AllFree, RoomForTvm, RootAligned, StateApart, WithinMemory}
-use Rattle.cove_model.specs.HostCalls.{Rule, rule}
-use Rattle.cove_model.specs.LawfulStores.{AllowsLawful, IsLawful}
-use Rattle.cove_model.specs.Owners.{every, is_free}
-use Rattle.cove_model.specs.Refusals.{Aligned, Check}
 use Rattle.cove_model.specs.States.{State as MonitorState}
-use Rattle.cove_model.specs.WordsStand.{FencesWithin}
 use Rattle.cove_tvm.proofs.CreatedTvm.{create_stands}
 use Rattle.cove_tvm.proofs.GivesLawful.{create_is_lawful}
 use Rattle.cove_tvm.specs.NewTvms.{MayCreate, create_stores, with_new}

@@ -3,10 +3,7 @@ use Rattle.std.proofs.Common.{◌≡◌, ℕ, zero, suc, ◌+◌, ◌-◌, ◌^�
 use Rattle.std.proofs.lemmas.Option.{none-some}
 use Rattle.std.specs.List.{range_with_len}
 use Rattle.cove_base.proofs.StoreLemmas.{AllAllowed-weaker}
-use Rattle.cove_base.specs.Places.{count_word, epoch_word, table_word, tvm_word}
-use Rattle.cove_base.specs.Stores.{AllAllowed, stored}
-use Rattle.cove_base.specs.declared.calls.HostCall.TheVariants.{Destroy}
-use Rattle.cove_base.specs.declared.statuses.Status.TheVariants.{Success}
+use Rattle.cove_model.specs.Machine.{count_word, epoch_word, table_word, tvm_word, AllAllowed, stored, Destroy, Success, rule, AllowsLawful, IsLawful, MakesLawful, State, find_tvm}
 use Rattle.cove_stage2.proofs.LawfulLemmas.{leads_on}
 use Rattle.cove_clear.specs.Clearing.{Goes, IsBeingCleared, MayBeCleared, Proceeds}
 use Rattle.cove_host.proofs.Beginning.{begins_leaving}
@@ -19,9 +16,6 @@ use Rattle.cove_host.proofs.PassedCalls.{AllPass, lawful_call}
 use Rattle.cove_host.specs.Ended.{HasEnded, IsEnding, MayEnd}
 use Rattle.cove_host.specs.HartsInside.{is_inside}
 use Rattle.cove_host.specs.Released.{HavePlaces, all_cpu_pages, release_stores}
-use Rattle.cove_model.specs.HostCalls.{rule}
-use Rattle.cove_model.specs.LawfulStores.{AllowsLawful, IsLawful, MakesLawful}
-use Rattle.cove_model.specs.States.{State, find_tvm}
 use Rattle.cove_model.specs.Tvms.{Tvm as ModelTvm}
 use Rattle.cove_tvm.proofs.BuiltRegions.{live_stands}
 use Rattle.cove_tvm.proofs.GoneTvm.{destroy_stands}

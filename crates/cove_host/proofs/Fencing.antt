@@ -3,21 +3,14 @@ use Rattle.std.proofs.Common.{◌≡◌, ℕ, ◌<◌, ◌∙◌, List, length, 
 use Rattle.std.proofs.lemmas.Bool.{lt-ltb}
 use Rattle.std.proofs.lemmas.Grind.{get_or-set_at}
 use Rattle.cove_base.proofs.StoreLemmas.{AllAllowed-weaker}
-use Rattle.cove_base.specs.Places.{all_words, epoch_word}
-use Rattle.cove_base.specs.Stores.{AllAllowed, stored}
-use Rattle.cove_base.specs.declared.calls.HostCall.TheVariants.{GlobalFence, LocalFence}
-use Rattle.cove_base.specs.declared.limits.TheConstants.{ENTRY_LIMIT}
-use Rattle.cove_base.specs.declared.statuses.Status.TheVariants.{AlreadyStarted, Success}
+use Rattle.cove_model.specs.Machine.{all_words, epoch_word, AllAllowed, stored, GlobalFence, LocalFence, ENTRY_LIMIT, AlreadyStarted, Success, rule, AllowsLawful, IsLawful, epoch_in}
 use Rattle.cove_fence.specs.Fences.{FenceWords, HaveAnswered, IsBehind, answer_stores, begin_stores}
 use Rattle.cove_host.proofs.AcceptedCalls.{accepts, rises_within}
 use Rattle.cove_host.proofs.Creating.{refuses}
 use Rattle.cove_tvm.specs.Called.{Called, IsReady}
 use Rattle.cove_model.proofs.LawfulProofs.{global_fence_is_lawful, local_fence_is_lawful}
 use Rattle.cove_model.proofs.ToldProofs.{words_tell_answered, words_tell_lowest}
-use Rattle.cove_model.specs.HostCalls.{rule}
-use Rattle.cove_model.specs.LawfulStores.{AllowsLawful, IsLawful}
 use Rattle.cove_model.specs.WordLaws.{AllAnswer, global_fence_stores, local_fence_stores}
-use Rattle.cove_model.specs.WordsStand.{epoch_in}
 use Rattle.cove_tvm.proofs.OwnerCalls.{ground_answers, ground_fences}
 use Rattle.cove_tvm.specs.declared.ground.Ground.{Ground}
 

@@ -1,15 +1,12 @@
 -- The outcome of finalizing a TVM.
 use Rattle.std.proofs.Common.{◌≡◌, ◌-◌, ℕ, zero, suc, List, [], Some, refl, sym}
 use Rattle.std.proofs.lemmas.Option.{none-some}
-use Rattle.cove_base.specs.declared.calls.HostCall.TheVariants.{Finalize}
-use Rattle.cove_base.specs.declared.statuses.Status.TheVariants.{Success}
+use Rattle.cove_model.specs.Machine.{Finalize, Success, Rule, rule, State, find_tvm}
 use Rattle.cove_host.proofs.PassedCalls.{AllPass, passed_call, stands_written}
 use Rattle.cove_host.proofs.CheckedLemmas.{each_passes}
 use Rattle.cove_host.proofs.LifeTold.{both_live}
 use Rattle.cove_tvm.specs.Called.{Called}
 use Rattle.cove_host.specs.Finalized.{IsFinalized}
-use Rattle.cove_model.specs.HostCalls.{Rule, rule}
-use Rattle.cove_model.specs.States.{State, find_tvm}
 use Rattle.cove_model.specs.Tvms.{Tvm as ModelTvm}
 use Rattle.cove_tvm.proofs.BuiltRegions.{live_stands}
 use Rattle.cove_tvm.proofs.FinalizedTvm.{finalize_stands}

@@ -1,12 +1,9 @@
 -- Pages of a run are free in a state just where a test of their words says so.
 use Rattle.std.proofs.Common.{◌≡◌, ◌↔◌, ℕ, ◌+◌, ◌<◌, ◌≤◌, ◌∙◌, Bool, true, List, ap, arith}
-use Rattle.cove_base.specs.PageWords.{IsFreeWord}
-use Rattle.cove_base.specs.Places.{epoch_word}
+use Rattle.cove_model.specs.Machine.{IsFreeWord, epoch_word, every, is_free, State}
 use Rattle.cove_fence.specs.Fences.{FenceWords, answered}
 use Rattle.cove_host.proofs.PageTests.{every_told}
 use Rattle.cove_model.proofs.ToldProofs.{words_tell_free}
-use Rattle.cove_model.specs.Owners.{every, is_free}
-use Rattle.cove_model.specs.States.{State}
 use Rattle.cove_model.specs.WordLaws.{IsFloor}
 use Rattle.cove_owner.specs.States.{EveryPage}
 use Rattle.cove_tvm.specs.Stands.{Stands}

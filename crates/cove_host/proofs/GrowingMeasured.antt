@@ -4,8 +4,7 @@ use Rattle.std.proofs.lemmas.Bool.{cases_lt, false≢true, not-false}
 use Rattle.std.proofs.lemmas.List.{ext_get_or}
 use Rattle.std.proofs.lemmas.List.FromFn.{get_or-map-range_with_len, length-map-range_with_len}
 use Rattle.cove_base.specs.Measurement.{registers_of}
-use Rattle.cove_base.specs.declared.calls.HostCall.TheVariants.{Measured}
-use Rattle.cove_base.specs.declared.statuses.Status.TheVariants.{Success}
+use Rattle.cove_model.specs.Machine.{Measured, Success, AllFree, AllHost, IsBuilding, Live, WithinMemory, Rule, page_records, page_words_from, rule, Free, Host, Owner, every, is_free, is_host, page_at, words_of, Aligned, Check, Count, State}
 use Rattle.cove_host.proofs.CheckedLemmas.{each_passes}
 use Rattle.cove_host.proofs.GrowingRuns.{Grows, grows, run_called, run_mapped}
 use Rattle.cove_host.proofs.PassedCalls.{AllPass, stands_written}
@@ -13,11 +12,6 @@ use Rattle.cove_host.proofs.PassedChecks.{inside_passes}
 use Rattle.cove_host.specs.GuestRuns.{mapping_checks}
 use Rattle.cove_host.specs.MeasuredRuns.{MeasuresOf, frames_from}
 use Rattle.cove_model.proofs.Runs.{every_at}
-use Rattle.cove_model.specs.Checks.{AllFree, AllHost, IsBuilding, Live, WithinMemory}
-use Rattle.cove_model.specs.HostCalls.{Rule, page_records, page_words_from, rule}
-use Rattle.cove_model.specs.Owners.{Free, Host, Owner, every, is_free, is_host, page_at, words_of}
-use Rattle.cove_model.specs.Refusals.{Aligned, Check, Count}
-use Rattle.cove_model.specs.States.{State}
 use Rattle.cove_model.specs.Tvms.{Tvm as ModelTvm}
 use Rattle.cove_tvm.proofs.PrivateRuns.{content_is, measured_stands, memory_is_lawful, prepares}
 use Rattle.cove_tvm.proofs.RunsStand.{was}

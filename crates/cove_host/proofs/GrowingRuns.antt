@@ -4,7 +4,7 @@ use Rattle.std.proofs.lemmas.Bool.{ltb-false, not-false}
 use Rattle.std.proofs.lemmas.Option.{none-some, same_Some}
 use Rattle.std.specs.List.{list_any}
 use Rattle.std.specs.Prelude.{unwrap_or}
-use Rattle.cove_base.specs.declared.statuses.Status.TheVariants.{InvalidAddress, Success}
+use Rattle.cove_model.specs.Machine.{InvalidAddress, Success, EnoughTables, IsRunnable, Live, Unmapped, WithinMemory, missing_tables, page_run, Rule, AllowsLawful, IsLawful, MakesLawful, mapping_of, Owner, every, Aligned, Check, Count, plain, State, find_tvm}
 use Rattle.cove_host.proofs.CheckedLemmas.{each_passes}
 use Rattle.cove_host.proofs.LifeTold.{both_live}
 use Rattle.cove_host.proofs.PassedCalls.{AllPass, lawful_call}
@@ -12,14 +12,6 @@ use Rattle.cove_host.proofs.PassedChecks.{inside_passes}
 use Rattle.cove_host.specs.Checked.{all_checked}
 use Rattle.cove_host.specs.GuestRuns.{mapping_checks}
 use Rattle.cove_host.specs.Mapped.{MapsRun, MayMapBy}
-use Rattle.cove_model.specs.Checks.{EnoughTables, IsRunnable, Live, Unmapped, WithinMemory}
-use Rattle.cove_model.specs.GuestPages.{missing_tables, page_run}
-use Rattle.cove_model.specs.HostCalls.{Rule}
-use Rattle.cove_model.specs.LawfulStores.{AllowsLawful, IsLawful, MakesLawful}
-use Rattle.cove_model.specs.Mappings.{mapping_of}
-use Rattle.cove_model.specs.Owners.{Owner, every}
-use Rattle.cove_model.specs.Refusals.{Aligned, Check, Count, plain}
-use Rattle.cove_model.specs.States.{State, find_tvm}
 use Rattle.cove_model.specs.Tvms.{Tvm as ModelTvm, new_tvm}
 use Rattle.cove_stage2.proofs.LawfulLemmas.{leads_on}
 use Rattle.cove_stage2.specs.MapStores.{Pages}

@@ -1,17 +1,11 @@
 -- A TVM maps pages of the host's: what the checks tell, and what the code leaves.
 use Rattle.std.proofs.Common.{true, ◌≡◌, ℕ, zero, suc, ◌+◌, ◌/◌, ◌^◌, ◌≤◌, List, Some, refl, arith}
-use Rattle.cove_base.specs.declared.calls.HostCall.TheVariants.{Shared}
-use Rattle.cove_base.specs.declared.statuses.Status.TheVariants.{Success}
+use Rattle.cove_model.specs.Machine.{Shared, Success, Rule, rule, AllowsLawful, is_host, State, maps_of}
 use Rattle.cove_host.proofs.GrowingRuns.{Grows, run_allowed, run_called, run_grows, run_mapped}
 use Rattle.cove_host.proofs.PassedCalls.{AllPass, stands_written}
 use Rattle.cove_host.proofs.ReadyWords.{few_maps}
 use Rattle.cove_host.specs.Mapped.{MapsOf, MayMapBy}
 use Rattle.cove_host.specs.Raised.{AreHosts, MayRaise, RaisesBy}
-use Rattle.cove_model.specs.HostCalls.{Rule, rule}
-use Rattle.cove_model.specs.LawfulStores.{AllowsLawful}
-use Rattle.cove_model.specs.Owners.{is_host}
-use Rattle.cove_model.specs.States.{State}
-use Rattle.cove_model.specs.WordsStand.{maps_of}
 use Rattle.cove_tvm.proofs.SharedRuns.{host_word, prepares, shared_stands}
 use Rattle.cove_tvm.specs.Called.{Called, IsReady}
 use Rattle.cove_tvm.specs.Stands.{Stands}

@@ -1,16 +1,10 @@
 -- A TVM is given memory: what the checks tell, and what the code leaves.
 use Rattle.std.proofs.Common.{◌≡◌, ℕ, zero, suc, ◌+◌, ◌/◌, ◌^◌, ◌≤◌, false, List, Some, refl}
 use Rattle.cove_base.proofs.StoreLemmas.{AllAllowed-weaker}
-use Rattle.cove_base.specs.Stores.{AllAllowed}
-use Rattle.cove_base.specs.declared.calls.HostCall.TheVariants.{Zero}
-use Rattle.cove_base.specs.declared.statuses.Status.TheVariants.{Success}
+use Rattle.cove_model.specs.Machine.{AllAllowed, Zero, Success, Rule, rule, AllowsLawful, IsLawful, is_free, zeros, State}
 use Rattle.cove_host.proofs.GrowingRuns.{Grows, run_allowed, run_called, run_grows, run_mapped}
 use Rattle.cove_host.proofs.PassedCalls.{AllPass, stands_written}
 use Rattle.cove_host.specs.Mapped.{MapsOf, MayMapBy}
-use Rattle.cove_model.specs.HostCalls.{Rule, rule}
-use Rattle.cove_model.specs.LawfulStores.{AllowsLawful, IsLawful}
-use Rattle.cove_model.specs.Owners.{is_free, zeros}
-use Rattle.cove_model.specs.States.{State}
 use Rattle.cove_tvm.proofs.PrivateRuns.{memory_is_lawful, prepares, zero_stands}
 use Rattle.cove_tvm.specs.Called.{Called, IsReady}
 use Rattle.cove_tvm.specs.PrivateRuns.{FillsFrames, memory_stores, with_memory}

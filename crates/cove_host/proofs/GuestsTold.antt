@@ -5,16 +5,12 @@ use Rattle.std.proofs.lemmas.Bool.Decides.{same_from_decides}
 use Rattle.std.specs.List.{list_all, list_any, range_with_len}
 use Rattle.std.specs.Prelude.{IsSome, nat_lt, unwrap_or}
 use Rattle.cove_base.specs.Tables.{IsTree, leaf_at}
-use Rattle.cove_base.specs.declared.statuses.Reply.{Reply}
-use Rattle.cove_base.specs.declared.statuses.Status.TheVariants.{Failed, InvalidAddress}
+use Rattle.cove_model.specs.Machine.{Reply, InvalidAddress, is_private, is_shared, missing_tables, mapping_of, Check, plain, Seat, State, find_tvm}
+use Rattle.cove_base.specs.declared.statuses.Status.TheVariants.{Failed}
 use Rattle.cove_host.proofs.GuestTests.{all_pass, none_passes}
 use Rattle.cove_host.specs.Checked.{checked}
 use Rattle.cove_host.specs.GuestRuns.{AreOfKind, EachGuest, HaveNoLeaf, KindsFit, kind_as, missing_of}
 use Rattle.cove_imsic.specs.FileTables.{FileTable}
-use Rattle.cove_model.specs.GuestPages.{is_private, is_shared, missing_tables}
-use Rattle.cove_model.specs.Mappings.{mapping_of}
-use Rattle.cove_model.specs.Refusals.{Check, plain}
-use Rattle.cove_model.specs.States.{Seat, State, find_tvm}
 use Rattle.cove_model.specs.Tvms.{Backing, OwnPage, HostPage, Standing, Present, Blocked, Mapping, Tvm as ModelTvm, new_tvm}
 use Rattle.cove_region.proofs.StandingLemmas.{private-agrees, shared-agrees}
 use Rattle.cove_region.specs.GuestMaps.{GuestMap, covers, has_shared as is_row, kind_of}

@@ -3,14 +3,10 @@ use Rattle.std.proofs.Common.{◌≡◌, ℕ, zero, suc, ◌+◌, ◌/◌, ◌^�
 use Rattle.std.proofs.lemmas.Bool.{cases_lt, lt-ltb, ne_eqb}
 use Rattle.std.specs.List.{range_with_len}
 use Rattle.std.specs.Option.{option_map_or}
-use Rattle.cove_base.specs.Places.{hart_word}
-use Rattle.cove_base.specs.declared.limits.TheConstants.{ENTRY_LIMIT}
+use Rattle.cove_model.specs.Machine.{hart_word, ENTRY_LIMIT, Denied, Seat, State, harts_inside, is_in, FencesWithin, SeatStands}
 use Rattle.cove_base.specs.declared.numbers.HartId.{HartId}
-use Rattle.cove_base.specs.declared.statuses.Status.TheVariants.{Denied}
 use Rattle.cove_host.proofs.CheckedLemmas.{Answer}
 use Rattle.cove_host.specs.HartsInside.{IsFirstInside, is_inside, is_word_of}
-use Rattle.cove_model.specs.States.{Seat, State, harts_inside, is_in}
-use Rattle.cove_model.specs.WordsStand.{FencesWithin, SeatStands}
 use Rattle.cove_tvm.specs.Stands.{Stands}
 use Rattle.cove_tvm.specs.declared.ground.Ground.{Ground}
 

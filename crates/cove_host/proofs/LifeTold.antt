@@ -4,8 +4,7 @@ use Rattle.std.proofs.lemmas.Bool.{eq-eqb, ne_eqb}
 use Rattle.std.proofs.lemmas.Option.{none-some}
 use Rattle.std.specs.Prelude.{unwrap_or}
 use Rattle.cove_host.specs.FoundTvms.{has_no_cpu}
-use Rattle.cove_model.specs.Keyed.{at}
-use Rattle.cove_model.specs.States.{State, find_cpu}
+use Rattle.cove_model.specs.Machine.{at, State, find_cpu}
 use Rattle.cove_model.specs.Tvms.{Cpu, Tvm as ModelTvm, new_tvm}
 use Rattle.cove_tvm.specs.Slots.{slot_at}
 use Rattle.cove_tvm.specs.TvmStands.{TvmStands}

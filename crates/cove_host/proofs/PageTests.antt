@@ -1,11 +1,9 @@
 -- A test of the pages of a run in a state, by a fact of their words.
 use Rattle.std.proofs.Common.{◌≡◌, ◌↔◌, ℕ, ◌+◌, ◌<◌, ◌≤◌, Bool, true, List, get_or, length, arith}
 use Rattle.std.proofs.lemmas.Bool.Decides.{same_from_decides}
-use Rattle.cove_base.specs.PageWords.{IsHostWord}
+use Rattle.cove_model.specs.Machine.{IsHostWord, Owner, every, is_host, page_at, State}
 use Rattle.cove_model.proofs.Runs.{every_at, every_from}
 use Rattle.cove_model.proofs.ToldProofs.{words_tell_host}
-use Rattle.cove_model.specs.Owners.{Owner, every, is_host, page_at}
-use Rattle.cove_model.specs.States.{State}
 use Rattle.cove_owner.specs.States.{EveryPage}
 use Rattle.cove_tvm.specs.Stands.{Stands}
 use Rattle.cove_tvm.specs.declared.ground.Ground.{Ground}

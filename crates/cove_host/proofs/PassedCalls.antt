@@ -1,15 +1,10 @@
 -- What a call leaves that every check lets pass, by its stores.
 use Rattle.std.proofs.Common.{◌≡◌, ◌-◌, ◌≤◌, ◌∙◌, ℕ, suc, List, get_or, Ok, sym, ap, subst, arith}
-use Rattle.cove_base.specs.Places.{count_word, epoch_word, tvm_word}
-use Rattle.cove_base.specs.Stores.{AllAllowed, stored}
-use Rattle.cove_base.specs.declared.statuses.Status.TheVariants.{Success}
+use Rattle.cove_model.specs.Machine.{count_word, epoch_word, tvm_word, AllAllowed, stored, Success, Rule, IsLawful, MakesLawful, State}
 use Rattle.cove_host.proofs.AcceptedCalls.{accepts, rises_within}
 use Rattle.cove_host.proofs.CheckedLemmas.{none_fails}
 use Rattle.cove_tvm.specs.Called.{Called, IsMet}
 use Rattle.cove_host.specs.Checked.{all_checked}
-use Rattle.cove_model.specs.HostCalls.{Rule}
-use Rattle.cove_model.specs.LawfulStores.{IsLawful, MakesLawful}
-use Rattle.cove_model.specs.States.{State}
 use Rattle.cove_tvm.specs.Stands.{Stands}
 use Rattle.cove_tvm.specs.TvmLends.{with_tvm}
 use Rattle.cove_tvm.specs.declared.ground.Ground.{Ground}

@@ -2,14 +2,9 @@
 use Rattle.std.proofs.Common.{◌≡◌, ◌+◌, ◌/◌, ◌≤◌, ℕ, suc, Bool, true, false, List, Result, Some, length, refl, subst, sym}
 use Rattle.std.proofs.lemmas.Bool.{ltb-false, not-false}
 use Rattle.std.specs.Prelude.{OnOk}
-use Rattle.cove_base.specs.declared.statuses.Reply.{Reply}
-use Rattle.cove_base.specs.declared.statuses.Status.{Status}
+use Rattle.cove_model.specs.Machine.{Reply, Status, AllFree, Live, WithinMemory, every, is_free, plain, State, find_tvm}
 use Rattle.cove_host.proofs.LifeTold.{both_live}
 use Rattle.cove_host.specs.Checked.{checked}
-use Rattle.cove_model.specs.Checks.{AllFree, Live, WithinMemory}
-use Rattle.cove_model.specs.Owners.{every, is_free}
-use Rattle.cove_model.specs.Refusals.{plain}
-use Rattle.cove_model.specs.States.{State, find_tvm}
 use Rattle.cove_model.specs.Tvms.{Tvm as ModelTvm}
 use Rattle.cove_tvm.specs.GivenRuns.{MayGive}
 use Rattle.cove_tvm.specs.Stands.{Stands}

@@ -1,9 +1,8 @@
 -- Counts of shared mappings that are raised, one after another.
 use Rattle.std.proofs.Common.{◌≡◌, ◌∙◌, ℕ, ◌+◌, ◌^◌, ◌<◌, ◌≤◌, List, [], ◌∷◌, get_or, length, length-set, set, refl, sym, ap, subst, inl, inr, arith, get_or-set_other, get_or-set_same}
 use Rattle.std.proofs.lemmas.Bool.{cases_eq}
-use Rattle.cove_base.specs.PageWords.{host}
+use Rattle.cove_model.specs.Machine.{host, Counts, IsLawful}
 use Rattle.cove_host.specs.Raised.{AreHosts, RaisesBy}
-use Rattle.cove_model.specs.LawfulStores.{Counts, IsLawful}
 use Rattle.cove_stage2.proofs.LawfulLemmas.{leads_on}
 
 raise_lawful : (pages harts hart : ℕ) (start now : List ℕ) (place maps : ℕ) → place < pages → get_or now place 0 ≡ host maps

@@ -1,11 +1,9 @@
 -- What words are that are ready for a call.
 use Rattle.std.proofs.Common.{ℕ, ◌+◌, ◌^◌, ◌<◌, ◌≤◌, List, arith}
-use Rattle.cove_base.specs.PageWords.{IsPageWord}
-use Rattle.cove_base.specs.declared.limits.TheConstants.{ENTRY_LIMIT}
+use Rattle.cove_model.specs.Machine.{IsPageWord, ENTRY_LIMIT, FencesWithin, maps_of}
 use Rattle.cove_tvm.specs.Called.{IsReady}
 use Rattle.cove_model.proofs.SharedLeaves.{stores_count_shared}
 use Rattle.cove_model.proofs.ToldProofs.{words_are_words}
-use Rattle.cove_model.specs.WordsStand.{FencesWithin, maps_of}
 use Rattle.cove_owner.specs.States.{EveryPage}
 use Rattle.cove_tvm.specs.declared.ground.Ground.{Ground}
 

@@ -2,11 +2,7 @@
 use Rattle.std.proofs.Common.{◌≡◌, ℕ, ◌+◌, ◌/◌, ◌<◌, ◌≤◌, List, [], ◌∷◌, get_or, Ok, true, refl, sym, subst, inr, arith}
 use Rattle.std.proofs.lemmas.Bool.{not-false}
 use Rattle.cove_base.proofs.StoreLemmas.{AllAllowed-weaker, get_or-fills_other}
-use Rattle.cove_base.specs.PageWords.{host}
-use Rattle.cove_base.specs.Places.{count_word}
-use Rattle.cove_base.specs.Stores.{AllAllowed, stored}
-use Rattle.cove_base.specs.declared.calls.HostCall.TheVariants.{Reclaim}
-use Rattle.cove_base.specs.declared.statuses.Status.TheVariants.{Success}
+use Rattle.cove_model.specs.Machine.{host, count_word, AllAllowed, stored, Reclaim, Success, AllFree, WithinMemory, rule, AllowsLawful, IsFreeIn, IsLawful, every, is_free, page_at, Aligned, Check, Count, State, PageStands, answered_in, epoch_in, maps_of}
 use Rattle.cove_host.proofs.AcceptedCalls.{accepts}
 use Rattle.cove_host.proofs.CheckedLemmas.{each_passes, none_fails}
 use Rattle.cove_host.proofs.Creating.{stays_within}
@@ -17,14 +13,7 @@ use Rattle.cove_host.specs.Checked.{all_checked}
 use Rattle.cove_model.proofs.LawfulProofs.{reclaim_is_lawful}
 use Rattle.cove_model.proofs.Runs.{every_at}
 use Rattle.cove_model.proofs.StandLemmas.{free_page}
-use Rattle.cove_model.specs.Checks.{AllFree, WithinMemory}
-use Rattle.cove_model.specs.HostCalls.{rule}
-use Rattle.cove_model.specs.LawfulStores.{AllowsLawful, IsFreeIn, IsLawful}
-use Rattle.cove_model.specs.Owners.{every, is_free, page_at}
-use Rattle.cove_model.specs.Refusals.{Aligned, Check, Count}
-use Rattle.cove_model.specs.States.{State}
 use Rattle.cove_model.specs.WordLaws.{reclaim_stores, zeroed}
-use Rattle.cove_model.specs.WordsStand.{PageStands, answered_in, epoch_in, maps_of}
 use Rattle.cove_tvm.proofs.OwnerCalls.{ground_reclaims}
 use Rattle.cove_tvm.specs.Stands.{Stands}
 use Rattle.cove_tvm.specs.declared.ground.Ground.{Ground}

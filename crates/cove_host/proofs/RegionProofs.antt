@@ -7,20 +7,13 @@ use Rattle.std.proofs.lemmas.List.Folds.{list_any-append}
 use Rattle.std.proofs.lemmas.Option.{none-some}
 use Rattle.std.specs.List.{list_any}
 use Rattle.std.specs.Prelude.{IsTrue, OnOk, unwrap_or}
-use Rattle.cove_base.specs.declared.calls.HostCall.TheVariants.{Region}
-use Rattle.cove_base.specs.declared.limits.TheConstants.{REGION_LIMIT}
-use Rattle.cove_base.specs.declared.statuses.Status.TheVariants.{Success}
+use Rattle.cove_model.specs.Machine.{Region, REGION_LIMIT, Success, IsArea, IsBuilding, Live, NoOverlap, RoomForRegion, meets_run, Rule, rule, Aligned, Check, State, find_tvm}
 use Rattle.cove_host.proofs.PassedCalls.{AllPass, passed_call, stands_written}
 use Rattle.cove_host.proofs.CheckedLemmas.{each_passes}
 use Rattle.cove_host.proofs.LifeTold.{both_live}
 use Rattle.cove_tvm.specs.Called.{Called}
 use Rattle.cove_host.specs.Checked.{all_checked}
 use Rattle.cove_host.specs.MoreRegions.{AddsRegion, HasRegion, has_all_regions, meets_region}
-use Rattle.cove_model.specs.Checks.{IsArea, IsBuilding, Live, NoOverlap, RoomForRegion}
-use Rattle.cove_model.specs.GuestPages.{meets_run}
-use Rattle.cove_model.specs.HostCalls.{Rule, rule}
-use Rattle.cove_model.specs.Refusals.{Aligned, Check}
-use Rattle.cove_model.specs.States.{State, find_tvm}
 use Rattle.cove_model.specs.Tvms.{Tvm as ModelTvm, new_tvm}
 use Rattle.cove_region.proofs.StandingLemmas.{added-stand, meets-stand, outside-free}
 use Rattle.cove_region.specs.GuestMaps.{AreAll, AreMade, GuestMap, covers, has_guest, pages_from}

@@ -1,14 +1,8 @@
 -- What a call that is built leaves, and one that is not.
 use Rattle.std.proofs.Common.{◌≡◌, ℕ, List, [], ◌∷◌, not, Bool, true, false, Some, refl, sym, ap, subst}
-use Rattle.cove_base.specs.declared.calls.HostCall.{HostCall}
-use Rattle.cove_base.specs.declared.statuses.Reply.{Reply}
-use Rattle.cove_base.specs.declared.statuses.Status.TheVariants.{NotSupported}
+use Rattle.cove_model.specs.Machine.{HostCall, Reply, NotSupported, is_built, refusal, reply_by, rule_of, state_after_rule, Rule, rule, first_failing, plain, State}
 use Rattle.cove_host.proofs.Creating.{stays_within}
 use Rattle.cove_tvm.specs.Called.{Called}
-use Rattle.cove_model.specs.Answers.{is_built, refusal, reply_by, rule_of, state_after_rule}
-use Rattle.cove_model.specs.HostCalls.{Rule, rule}
-use Rattle.cove_model.specs.Refusals.{first_failing, plain}
-use Rattle.cove_model.specs.States.{State}
 use Rattle.cove_tvm.specs.Stands.{Stands}
 use Rattle.cove_tvm.specs.declared.ground.Ground.{Ground}
 

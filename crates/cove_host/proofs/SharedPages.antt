@@ -2,11 +2,9 @@
 use Rattle.std.proofs.Common.{◌≡◌, ◌↔◌, ℕ, ◌+◌, ◌<◌, ◌≤◌, ◌∙◌, ◌&&◌, Bool, true, false, List, [], ◌∷◌, get_or, eqb, eqb-true, eq-eqb, nat_le, nat_lt, refl, sym, ap, arith, inl, inr}
 use Rattle.std.proofs.lemmas.Bool.{and_from, and_parts, false≢true, le-leb, leb-true, lt-ltb, ltb-true, or_cases, or_left, or_right}
 use Rattle.std.specs.List.{list_any}
-use Rattle.cove_base.specs.PageWords.{IsMappedWord, host}
+use Rattle.cove_model.specs.Machine.{IsMappedWord, host, every, has, is_host, page_at, State, shared_pages}
 use Rattle.cove_model.proofs.Runs.{every_at}
 use Rattle.cove_model.proofs.ToldProofs.{words_tell_host, words_tell_shared}
-use Rattle.cove_model.specs.Owners.{every, has, is_host, page_at}
-use Rattle.cove_model.specs.States.{State, shared_pages}
 use Rattle.cove_owner.specs.States.{SomePage}
 use Rattle.cove_tvm.specs.Stands.{Stands}
 use Rattle.cove_tvm.specs.declared.ground.Ground.{Ground}

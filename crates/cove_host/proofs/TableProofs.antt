@@ -2,20 +2,11 @@
 use Rattle.std.proofs.Common.{◌≡◌, ◌-◌, ◌+◌, ◌/◌, ◌≤◌, ◌∙◌, ℕ, zero, suc, List, [], ◌∷◌, get_or, length, Some, refl, sym, subst, inr, arith}
 use Rattle.std.proofs.lemmas.Option.{none-some, same_Some}
 use Rattle.cove_base.proofs.StoreLemmas.{AllAllowed-weaker, get_or-fills_other}
-use Rattle.cove_base.specs.PageWords.{given}
-use Rattle.cove_base.specs.Stores.{AllAllowed, stored}
-use Rattle.cove_base.specs.declared.calls.HostCall.TheVariants.{Tables}
-use Rattle.cove_base.specs.declared.numbers.Role.TheVariants.{Table}
-use Rattle.cove_base.specs.declared.statuses.Status.TheVariants.{Success}
+use Rattle.cove_model.specs.Machine.{given, AllAllowed, stored, Tables, Table, Success, AllFree, Live, WithinMemory, Rule, rule, AllowsLawful, IsLawful, Aligned, Check, Count, State}
 use Rattle.cove_host.proofs.PassedCalls.{AllPass, passed_call, stands_written}
 use Rattle.cove_host.proofs.PassedChecks.{Gives, gives, may_give}
 use Rattle.cove_host.proofs.CheckedLemmas.{each_passes}
 use Rattle.cove_tvm.specs.Called.{Called, IsReady}
-use Rattle.cove_model.specs.Checks.{AllFree, Live, WithinMemory}
-use Rattle.cove_model.specs.HostCalls.{Rule, rule}
-use Rattle.cove_model.specs.LawfulStores.{AllowsLawful, IsLawful}
-use Rattle.cove_model.specs.Refusals.{Aligned, Check, Count}
-use Rattle.cove_model.specs.States.{State}
 use Rattle.cove_tvm.proofs.GivenTables.{tables_are_lawful, tables_fit, tables_stand}
 use Rattle.cove_tvm.specs.MoreTables.{AddsTables, tables_stores}
 use Rattle.cove_tvm.specs.Stands.{Stands}

@@ -7,20 +7,14 @@ use Rattle.std.proofs.lemmas.Option.{none-some, same_Some}
 use Rattle.std.specs.List.{range_with_len}
 use Rattle.cove_base.proofs.StoreLemmas.{AllAllowed-split, length-stored, stored-append}
 use Rattle.cove_base.proofs.TableLemmas.{below-absent}
-use Rattle.cove_base.specs.PageWords.{given, host, released}
-use Rattle.cove_base.specs.Places.{hart_word, page_word, table_word}
-use Rattle.cove_base.specs.Stores.{AllAllowed, stored}
+use Rattle.cove_model.specs.Machine.{given, host, released, hart_word, page_word, table_word, AllAllowed, stored, Role, Root, Table, Vcpu, Data, Frees, IsLawful, IsLeft, IsTableOf, TakesBack, has, Seat, find_cpu}
 use Rattle.cove_base.specs.Tables.{Slot, InRoot, InMiddle, InLast, IsLinkSlot, below, entry_at, leaf_at, next_table}
-use Rattle.cove_base.specs.declared.numbers.Role.{Role}
-use Rattle.cove_base.specs.declared.numbers.Role.TheVariants.{Root, State, Table, Vcpu, Data}
+use Rattle.cove_base.specs.declared.numbers.Role.TheVariants.{State}
 use Rattle.cove_clear.specs.Clearing.{Clears, IsBeingCleared}
 use Rattle.cove_host.specs.Released.{all_cpu_pages, cpu_pages, release_stores}
 use Rattle.cove_model.proofs.Distinct.{has_left, has_right}
 use Rattle.cove_model.proofs.LeafWords.{given_host, none_named}
 use Rattle.cove_model.proofs.Members.{has_append, has_range, range_has}
-use Rattle.cove_model.specs.LawfulStores.{Frees, IsLawful, IsLeft, IsTableOf, TakesBack}
-use Rattle.cove_model.specs.Owners.{has}
-use Rattle.cove_model.specs.States.{Seat, find_cpu}
 use Rattle.cove_model.specs.TableLaw.{shared_leaves, is_shared_leaf}
 use Rattle.cove_model.specs.Tvms.{Cpu, Tvm as ModelTvm}
 use Rattle.cove_imsic.specs.FileTables.{FileTable}

@@ -10,21 +10,12 @@ use Rattle.cove_base.specs.EventWords.{act_arguments, act_word, event_words, exi
 use Rattle.cove_base.specs.Numbers.{is_u64, natural_text, number_of, number_text}
 use Rattle.cove_base.specs.Statuses.{is_success}
 use Rattle.cove_base.specs.Text.{text_words}
-use Rattle.cove_base.specs.declared.calls.GuestAct.{GuestAct}
+use Rattle.cove_model.specs.Machine.{GuestAct, HostCall, Convert, Entry, Event, How, Hit, Walk, Reply, Status, Success}
 use Rattle.cove_base.specs.declared.calls.GuestAct.TheVariants as acts
-use Rattle.cove_base.specs.declared.calls.HostCall.{HostCall}
-use Rattle.cove_base.specs.declared.calls.HostCall.TheVariants.{Convert}
-use Rattle.cove_base.specs.declared.events.Entry.{Entry}
-use Rattle.cove_base.specs.declared.events.Event.{Event}
 use Rattle.cove_base.specs.declared.events.Event.TheVariants as events
 use Rattle.cove_base.specs.declared.events.Exit.{Exit}
 use Rattle.cove_base.specs.declared.events.Exit.TheVariants as exits
-use Rattle.cove_base.specs.declared.events.How.{How}
-use Rattle.cove_base.specs.declared.events.How.TheVariants.{Hit, Walk}
 use Rattle.cove_base.specs.declared.numbers.Gpn.{Gpn}
-use Rattle.cove_base.specs.declared.statuses.Reply.{Reply}
-use Rattle.cove_base.specs.declared.statuses.Status.{Status}
-use Rattle.cove_base.specs.declared.statuses.Status.TheVariants.{Success}
 use Rattle.cove_base.proofs.CallLemmas.{call_of-word_of, is_word-word_of, length-arguments}
 use Rattle.cove_base.proofs.JoinedWords.{is_word, text_words-joined}
 use Rattle.cove_model.specs.Reports.{entry_line, entry_words}

@@ -2,26 +2,13 @@
 use Rattle.std.proofs.Common.{◌≡◌, ◌≢◌, ℕ, zero, suc, ◌+◌, ◌<◌, ◌≤◌, not, false, List, [], ◌∷◌, Some, None, get_or, length, set, get_or-set_other, get_or-set_same, refl, sym, ap, subst, ◌∙◌, true≢false, arith}
 use Rattle.std.proofs.lemmas.Option.{none-some}
 use Rattle.std.specs.Prelude.{unwrap_or}
-use Rattle.cove_base.specs.Places.{answered_word, count_word, epoch_word, tvm_word}
-use Rattle.cove_base.specs.Stores.{AllAllowed, stored}
+use Rattle.cove_model.specs.Machine.{answered_word, count_word, epoch_word, tvm_word, AllAllowed, stored, HostCall, Convert, Create, ENTRY_LIMIT, Reply, Denied, InvalidParam, NotSupported, Success, IsLawful, MakesLawful, is_built, refusal, refusal_by, reply_to, rule_of, state_by, rule, AsState, Given, Host, page_at, first_failing, plain, State, opening, opening_words, FencesWithin, FrameStands, FramesStand, epoch_in}
 use Rattle.cove_base.specs.Statuses.{is_success}
-use Rattle.cove_base.specs.declared.calls.HostCall.{HostCall}
-use Rattle.cove_base.specs.declared.calls.HostCall.TheVariants.{Convert, Create}
-use Rattle.cove_base.specs.declared.limits.TheConstants.{ENTRY_LIMIT}
-use Rattle.cove_base.specs.declared.statuses.Reply.{Reply}
-use Rattle.cove_base.specs.declared.statuses.Status.TheVariants.{Denied, InvalidParam, NotSupported, Success}
 use Rattle.cove_model.proofs.Histories.{sound}
 use Rattle.cove_model.proofs.Lists.{replicate_zero}
 use Rattle.cove_model.proofs.Ordering.{orderly}
 use Rattle.cove_model.proofs.Running.{none_seated}
 use Rattle.cove_model.proofs.StoreLawProofs.{answers_apart}
-use Rattle.cove_model.specs.LawfulStores.{IsLawful, MakesLawful}
-use Rattle.cove_model.specs.Answers.{is_built, refusal, refusal_by, reply_to, rule_of, state_by}
-use Rattle.cove_model.specs.HostCalls.{rule}
-use Rattle.cove_model.specs.Owners.{AsState, Given, Host, page_at}
-use Rattle.cove_model.specs.Refusals.{first_failing, plain}
-use Rattle.cove_model.specs.States.{State, opening, opening_words}
-use Rattle.cove_model.specs.WordsStand.{FencesWithin, FrameStands, FramesStand, epoch_in}
 use Rattle.cove_tvm.proofs.NewGround.{board_is_new, ground_opens}
 use Rattle.cove_lives.specs.CallExamples.{only, small_ground, small_script, small_words}
 use Rattle.cove_tvm.specs.Called.{Called, IsMet, IsReady}

@@ -1,14 +1,10 @@
 -- What the example of a TVM that is destroyed shows.
 use Rattle.std.proofs.Common.{◌≡◌, ◌≢◌, ℕ, zero, suc, ◌-◌, ◌<◌, ◌≤◌, List, ◌∷◌, ◌++◌, get_or, replicate, set, refl, sym, ap, ◌∙◌, inl, inr, arith}
 use Rattle.std.proofs.lemmas.List.{get_or_append_left, length-replicate}
-use Rattle.cove_base.specs.PageWords.{given, host, released}
-use Rattle.cove_base.specs.Places.{all_words, epoch_word, table_word}
+use Rattle.cove_model.specs.Machine.{given, host, released, all_words, epoch_word, table_word, Role, Table, IsTableOf}
 use Rattle.cove_base.specs.TableWords.{shared_leaf}
-use Rattle.cove_base.specs.declared.numbers.Role.{Role}
-use Rattle.cove_base.specs.declared.numbers.Role.TheVariants.{Table}
 use Rattle.cove_model.proofs.LeafWords.{given_host, given_number}
 use Rattle.cove_model.proofs.Lists.{replicate_zero}
-use Rattle.cove_model.specs.LawfulStores.{IsTableOf}
 use Rattle.cove_model.specs.TableLaw.{shared_leaves}
 use Rattle.cove_tvm.specs.DestroyedTvms.{Destroys}
 use Rattle.cove_lives.specs.RunExamples.{three_pages, two_sharing}

@@ -2,20 +2,11 @@
 use Rattle.std.proofs.Common.{◌≡◌, ℕ, zero, suc, ◌<◌, ◌≤◌, true, [], get_or, replicate, refl, sym, ap, ◌∙◌, true≢false, inr, arith}
 use Rattle.std.proofs.lemmas.Option.{none-some}
 use Rattle.cove_base.proofs.StoreLemmas.{get_or-fills_other, get_or-stored_other}
-use Rattle.cove_base.specs.PageWords.{converting, given}
-use Rattle.cove_base.specs.Places.{all_words, tvm_word}
-use Rattle.cove_base.specs.declared.limits.TheConstants.{ENTRY_LIMIT}
+use Rattle.cove_model.specs.Machine.{converting, given, all_words, tvm_word, ENTRY_LIMIT, effect, IsOrderly, Owner, Purpose, Given, is_free, is_host, page_at, IsSeated, opening, new_tvm, FencesWithin, FrameStands, FramesStand, Convert}
 use Rattle.cove_base.specs.declared.numbers.Role.TheVariants.{State as StateRole, Table}
 use Rattle.cove_model.proofs.Lists.{replicate_zero}
 use Rattle.cove_model.proofs.Running.{none_seated}
-use Rattle.cove_model.specs.Answers.{effect}
-use Rattle.cove_model.specs.Orderly.{IsOrderly}
-use Rattle.cove_model.specs.Owners.{Owner, Purpose, Given, is_free, is_host, page_at}
-use Rattle.cove_model.specs.Seated.{IsSeated}
-use Rattle.cove_model.specs.States.{opening}
-use Rattle.cove_model.specs.Tvms.{new_tvm}
 use Rattle.cove_model.specs.WordLaws.{global_fence_stores}
-use Rattle.cove_model.specs.WordsStand.{FencesWithin, FrameStands, FramesStand}
 use Rattle.cove_stage2.specs.declared.tables.Tables.{Tables}
 use Rattle.cove_tvm.proofs.CreatedTvm.{create_stands}
 use Rattle.cove_tvm.proofs.GivenTables.{tables_stand}
@@ -30,7 +21,6 @@ use Rattle.cove_tvm.specs.NewTvms.{MayCreate}
 use Rattle.cove_tvm.specs.PrivateRuns.{MayGrow}
 use Rattle.cove_tvm.specs.SharedRuns.{MayShare}
 use Rattle.cove_tvm.specs.Stands.{Stands}
-use Rattle.cove_base.specs.declared.calls.HostCall.TheVariants.{Convert}
 
 -- ---- the board
 

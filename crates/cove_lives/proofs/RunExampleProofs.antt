@@ -3,15 +3,10 @@ use Rattle.std.proofs.Common.{◌≡◌, ◌≢◌, ℕ, zero, suc, ◌+◌, ◌
 use Rattle.std.proofs.lemmas.List.{get_or-append_right}
 use Rattle.cove_base.proofs.TreeLemmas.{last-number, link-slot, middle≢last, root-number, root≢last, root≢middle}
 use Rattle.cove_base.proofs.TreeStores.{IsStoreAt, OnlyAt, leaf-store, link-store, spare-kept, tree-leaf, tree-link}
-use Rattle.cove_base.specs.PageWords.{given, host}
-use Rattle.cove_base.specs.Places.{all_words, table_word}
-use Rattle.cove_base.specs.Stores.{stored}
+use Rattle.cove_model.specs.Machine.{given, host, all_words, table_word, stored, Root, Table, Data, IsBehindLeaf, new_tvm}
 use Rattle.cove_base.specs.TableWords.{private_leaf}
 use Rattle.cove_base.specs.Tables.{Slot, InRoot, InMiddle, InLast, IsPresent, IsLinkSlot, IsPool, IsSlot, IsSpare, IsTree, below, entry_at, leaf_at, next_table, present}
-use Rattle.cove_base.specs.declared.numbers.Role.TheVariants.{Root, Table, Data}
 use Rattle.cove_model.proofs.Lists.{replicate_zero}
-use Rattle.cove_model.specs.LawfulStores.{IsBehindLeaf}
-use Rattle.cove_model.specs.Tvms.{new_tvm}
 use Rattle.cove_stage2.proofs.RestLemmas.{lacks-rest}
 use Rattle.cove_stage2.proofs.ZeroLemmas.{empty-entries, empty-tree}
 use Rattle.cove_stage2.specs.Changes.{ChangesLeaf, NamesWay}

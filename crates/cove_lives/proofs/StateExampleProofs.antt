@@ -3,20 +3,15 @@ use Rattle.std.proofs.Common.{◌≡◌, ◌≢◌, ℕ, zero, suc, ◌+◌, ◌
 use Rattle.std.proofs.lemmas.List.{get_or-append_right}
 use Rattle.std.proofs.lemmas.Option.{same_Some}
 use Rattle.cove_base.specs.InterruptFiles.{InterruptFile}
-use Rattle.cove_base.specs.PageWords.{given, host}
-use Rattle.cove_base.specs.Places.{all_words, hart_word, table_word}
+use Rattle.cove_model.specs.Machine.{given, host, all_words, hart_word, table_word, Role, Root, Table, Vcpu, Data, Within, Seat, new_cpu, Begun, NotBegun, new_tvm}
 use Rattle.cove_base.specs.TableWords.{blocked}
 use Rattle.cove_base.specs.Tables.{Slot, IsLinkSlot, entry_at, next_table, present}
-use Rattle.cove_base.specs.declared.numbers.Role.{Role}
-use Rattle.cove_base.specs.declared.numbers.Role.TheVariants.{Root, State, Table, Vcpu, Data}
+use Rattle.cove_base.specs.declared.numbers.Role.TheVariants.{State}
 use Rattle.cove_base.specs.declared.registers.Regs.{Regs}
 use Rattle.cove_base.proofs.TreeLemmas.{link-slot}
 use Rattle.cove_imsic.specs.FileTables.{FileTable}
 use Rattle.cove_model.proofs.LeafWords.{given_host}
 use Rattle.cove_model.proofs.Lists.{replicate_zero}
-use Rattle.cove_model.specs.Sound.{Within}
-use Rattle.cove_model.specs.States.{Seat, new_cpu}
-use Rattle.cove_model.specs.Tvms.{Begun, NotBegun, new_tvm}
 use Rattle.cove_stage2.proofs.ZeroLemmas.{empty-entries}
 use Rattle.cove_stage2.specs.declared.tables.Tables.{Tables}
 use Rattle.cove_tvm.proofs.BegunTvm.{HasBegun, IsPlaced, begun_lives}

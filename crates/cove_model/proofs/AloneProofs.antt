@@ -2,15 +2,10 @@
 use Rattle.std.proofs.Common.{◌≡◌, ℕ, ◌+◌, List, [], ◌∷◌, ◌++◌, Option, Some, None, length, replicate, append-nil, append_assoc, sym, ◌∙◌, ap, subst, ⊎_elim, arith}
 use Rattle.std.proofs.lemmas.List.{length-replicate, length_push}
 use Rattle.cove_base.proofs.ScriptLimits.{Limits, limits_of}
-use Rattle.cove_base.specs.HartValues.{HartRings, HartValue, rings_after}
-use Rattle.cove_base.specs.Places.{all_words, count_word, epoch_word, tvm_word}
-use Rattle.cove_base.specs.Scripts.{ScriptValue}
-use Rattle.cove_base.specs.declared.events.Entry.{Entry}
+use Rattle.cove_model.specs.Machine.{HartRings, HartValue, rings_after, all_words, count_word, epoch_word, tvm_word, ScriptValue, Entry, Page, Target, WasFound, Legal, after, own, tlb, epoch_in, number_in}
 use Rattle.cove_base.specs.declared.events.Walked.{Walked}
 use Rattle.cove_base.specs.declared.events.Walked.TheVariants as walks
-use Rattle.cove_base.specs.declared.numbers.Page.{Page}
 use Rattle.cove_base.specs.declared.walks.Noted.{Noted}
-use Rattle.cove_base.specs.declared.walks.Target.{Target}
 use Rattle.cove_base.specs.declared.walks.Target.TheVariants as targets
 use Rattle.cove_model.proofs.AtTheEnd.{from_end, legal_front, own_other, own_same, tlb_other}
 use Rattle.cove_model.proofs.Fitting.{inside_other, sought_other}
@@ -20,12 +15,8 @@ use Rattle.cove_model.proofs.Playing.{was_now}
 use Rattle.cove_model.proofs.Running.{ended_apart}
 use Rattle.cove_model.proofs.ToldProofs.{words_tell_host}
 use Rattle.cove_model.specs.BoardRule.{IsMonitored, OpeningKeepsRule, UnusedLives, WalkLives}
-use Rattle.cove_model.specs.Cached.{WasFound}
 use Rattle.cove_model.specs.Fits.{IsSought, UnusedFits, WalkFits, rings_of, walked_rings}
 use Rattle.cove_model.specs.FitsAlone.{FitsAlone, FitsFitAlone, OthersLeaveAlone, RuledHartsFit, UnusedSought, WalksLeaveAlone}
-use Rattle.cove_model.specs.Histories.{Legal, after, own}
-use Rattle.cove_model.specs.Translations.{tlb}
-use Rattle.cove_model.specs.WordsStand.{epoch_in, number_in}
 
 -- ---- a hart that fits
 

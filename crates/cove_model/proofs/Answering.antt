@@ -1,28 +1,11 @@
 -- The answers of calls in allowed events.
 use Rattle.std.proofs.Common.{◌≡◌, ℕ, ◌^◌, Bool, true, false, cond, nat_lt, List, Option, Some, None, sym, ap, subst, ◌∙◌, inl, inr}
-use Rattle.cove_base.specs.HartLines.{next_line}
+use Rattle.cove_model.specs.Machine.{next_line, ScriptValue, GuestAct, HostCall, Event, How, Line, ScriptLine, Reply, Target, has, refusal_by, reply_by, reply_to, Deed, Tires, Fetches, Executes, Loads, Stores, Asks, Waits, Traps, deed_of, guest_rule, Rule, Single, Touch, access_target, act_event, cpu_of, deed_offer, fault_exit, fetch_target, first_behind, guest_touch, kicked_offer, line_offer, outside_offer, unkicked_offer, unless_behind, Seat, State, ended_by, Allows, Takes}
 use Rattle.cove_base.specs.Registers.{register}
-use Rattle.cove_base.specs.Scripts.{ScriptValue}
-use Rattle.cove_base.specs.declared.calls.GuestAct.{GuestAct}
 use Rattle.cove_base.specs.declared.calls.GuestAct.TheVariants as acts
-use Rattle.cove_base.specs.declared.calls.HostCall.{HostCall}
-use Rattle.cove_base.specs.declared.events.Event.{Event}
 use Rattle.cove_base.specs.declared.events.Event.TheVariants as events
 use Rattle.cove_base.specs.declared.events.Exit.{Exit}
-use Rattle.cove_base.specs.declared.events.How.{How}
-use Rattle.cove_base.specs.declared.scripts.Line.{Line}
 use Rattle.cove_base.specs.declared.scripts.Line.TheVariants as lines
-use Rattle.cove_base.specs.declared.scripts.ScriptLine.{ScriptLine}
-use Rattle.cove_base.specs.declared.statuses.Reply.{Reply}
-use Rattle.cove_base.specs.declared.walks.Target.{Target}
-use Rattle.cove_model.specs.Owners.{has}
-use Rattle.cove_model.specs.Answers.{refusal_by, reply_by, reply_to}
-use Rattle.cove_model.specs.Deeds.{Deed, Tires, Fetches, Executes, Loads, Stores, Asks, Waits, Traps, deed_of}
-use Rattle.cove_model.specs.GuestCalls.{guest_rule}
-use Rattle.cove_model.specs.HostCalls.{Rule}
-use Rattle.cove_model.specs.Offers.{Single, Touch, access_target, act_event, cpu_of, deed_offer, fault_exit, fetch_target, first_behind, guest_touch, kicked_offer, line_offer, outside_offer, unkicked_offer, unless_behind}
-use Rattle.cove_model.specs.States.{Seat, State, ended_by}
-use Rattle.cove_model.specs.Steps.{Allows, Takes}
 
 -- ---- an act of a guest
 

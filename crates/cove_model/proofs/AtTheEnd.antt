@@ -1,13 +1,6 @@
 -- What a history gives, one entry later.
-use Rattle.cove_base.specs.Scripts.{ScriptValue}
-use Rattle.cove_base.specs.declared.events.Entry.{Entry}
-use Rattle.cove_base.specs.declared.events.Event.{Event}
-use Rattle.cove_base.specs.declared.scripts.Line.{Line}
+use Rattle.cove_model.specs.Machine.{ScriptValue, Entry, Event, Line, EachEntry, Legal, after, after_entry, own, told, Seat, State, ended_by, opening, Allows, after_event, asked, done, line_ended, Tlb, held_after, held_from, nothing_held, renewed, tlb}
 use Rattle.cove_model.proofs.Frames.{framed_done}
-use Rattle.cove_model.specs.Histories.{EachEntry, Legal, after, after_entry, own, told}
-use Rattle.cove_model.specs.States.{Seat, State, ended_by, opening}
-use Rattle.cove_model.specs.Steps.{Allows, after_event, asked, done, line_ended}
-use Rattle.cove_model.specs.Translations.{Tlb, held_after, held_from, nothing_held, renewed, tlb}
 use Rattle.std.proofs.Common.{List, None, Option, Some, [], ap, append-nil, append_assoc, arith, eq-eqb, eqb, filter_map, fold, get_or, get_or-set_other, get_or-set_same, length, length-set, ne_eqb, refl, subst, sym, ℕ, ◌++◌, ◌+◌, ◌<◌, ◌∙◌, ◌∷◌, ◌≡◌, ◌≢◌}
 use Rattle.std.proofs.lemmas.Bool.{cond-false, cond-true}
 use Rattle.std.proofs.lemmas.List.Elements.{filter-append, filter_map-append}

@@ -5,31 +5,14 @@ use Rattle.std.proofs.lemmas.Bool.{cases_eq}
 use Rattle.std.proofs.lemmas.List.{length-map, length-replicate}
 use Rattle.std.proofs.lemmas.List.Elements.{filter_map-append}
 use Rattle.std.proofs.lemmas.Option.{slice_get-map, slice_get_within}
-use Rattle.cove_base.specs.HartLines.{lines_of, next_line}
+use Rattle.cove_model.specs.Machine.{lines_of, next_line, ScriptValue, GuestAct, Entry, Event, How, Line, ScriptLine, Reply, Target, has, refusal_by, reply_by, Deed, Tires, Fetches, Executes, Loads, Stores, Asks, Waits, Traps, deed_of, guest_rule, Follows, Legal, after, own, told, wanted, offer, Offer, Nothing, Behind, Single, Touch, access_target, act_event, cpu_of, deed_offer, fault_exit, fetch_target, first_behind, guest_touch, kicked_offer, line_offer, outside_offer, unkicked_offer, unless_behind, IsOver, Seat, State, ended_by, Allows, Takes, after_event, asked, done}
 use Rattle.cove_base.specs.Registers.{register}
-use Rattle.cove_base.specs.Scripts.{ScriptValue}
-use Rattle.cove_base.specs.declared.calls.GuestAct.{GuestAct}
 use Rattle.cove_base.specs.declared.calls.GuestAct.TheVariants as acts
-use Rattle.cove_base.specs.declared.events.Entry.{Entry}
-use Rattle.cove_base.specs.declared.events.Event.{Event}
-use Rattle.cove_base.specs.declared.events.How.{How}
-use Rattle.cove_base.specs.declared.scripts.Line.{Line}
 use Rattle.cove_base.specs.declared.scripts.Line.TheVariants as lines
-use Rattle.cove_base.specs.declared.scripts.ScriptLine.{ScriptLine}
-use Rattle.cove_base.specs.declared.statuses.Reply.{Reply}
-use Rattle.cove_base.specs.declared.walks.Target.{Target}
 use Rattle.cove_model.proofs.Lists.{none_past, replicate_zero, take_next}
-use Rattle.cove_model.specs.Owners.{has}
 use Rattle.cove_model.proofs.AtTheEnd.{after_push, ended_inside, ended_length, ended_other, ended_own, from_end, legal_front, legal_last, line_seats, own_same, told_other, told_same}
 use Rattle.cove_model.proofs.EventMoves.{seat_other}
-use Rattle.cove_model.specs.Answers.{refusal_by, reply_by}
-use Rattle.cove_model.specs.Deeds.{Deed, Tires, Fetches, Executes, Loads, Stores, Asks, Waits, Traps, deed_of}
-use Rattle.cove_model.specs.GuestCalls.{guest_rule}
-use Rattle.cove_model.specs.Histories.{Begins, Follows, Legal, after, own, told, wanted}
-use Rattle.cove_model.specs.Offers.{offer, Offer, Nothing, Behind, Single, Touch, access_target, act_event, cpu_of, deed_offer, fault_exit, fetch_target, first_behind, guest_touch, kicked_offer, line_offer, outside_offer, unkicked_offer, unless_behind}
-use Rattle.cove_model.specs.Played.{IsOver}
-use Rattle.cove_model.specs.States.{Seat, State, ended_by}
-use Rattle.cove_model.specs.Steps.{Allows, Takes, after_event, asked, done}
+use Rattle.cove_model.specs.Histories.{Begins}
 
 -- ---- the line that an event answers
 

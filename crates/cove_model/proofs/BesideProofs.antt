@@ -1,9 +1,6 @@
 -- Stores beside the page words, the epoch and the answered numbers.
 use Rattle.std.proofs.Common.{◌≡◌, ◌≢◌, ℕ, ◌+◌, ◌<◌, ◌≤◌, ltb, List, None, Some, Option, get_or, set, refl, sym, ◌∙◌, ap, inl, inr, arith, length-set, get_or-set_other}
-use Rattle.cove_base.specs.Places.{count_word, Place, PageWord, TableWord, EpochWord, AnsweredWord, TvmWord, HartWord, CountWord, IsPlace, place_of, table_word, epoch_word, answered_word, tvm_word, hart_word}
-use Rattle.cove_model.specs.Owners.{Owner, Host, Converting, Free, Given, page_at}
-use Rattle.cove_model.specs.States.{State}
-use Rattle.cove_model.specs.WordsStand.{OwnersStand, PageStands, IsAnsweredByAll, WaitsFor, epoch_in, answered_in, maps_of, harts_behind}
+use Rattle.cove_model.specs.Machine.{count_word, Place, PageWord, TableWord, EpochWord, AnsweredWord, TvmWord, HartWord, CountWord, IsPlace, place_of, table_word, epoch_word, answered_word, tvm_word, hart_word, Owner, Host, Converting, Free, Given, page_at, State, OwnersStand, PageStands, IsAnsweredByAll, WaitsFor, epoch_in, answered_in, maps_of, harts_behind}
 use Rattle.cove_model.specs.WordLaws.{IsBeside, OthersLeaveOwners, CountLeavesWords}
 use Rattle.cove_model.proofs.HartLists.{filter_harts}
 use Rattle.cove_model.proofs.StandLemmas.{seat_moves, page_moves}

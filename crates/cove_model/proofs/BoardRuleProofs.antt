@@ -3,18 +3,10 @@ use Rattle.std.proofs.Common.{◌≡◌, ◌≢◌, ℕ, ◌+◌, ◌<◌, ◌�
 use Rattle.std.proofs.lemmas.Bool.{cases_lt}
 use Rattle.std.proofs.lemmas.List.{get_or_past, length_push}
 use Rattle.cove_base.proofs.ScriptLimits.{Limits, limits_of}
-use Rattle.cove_base.specs.HartValues.{HartValue, Holding, Inside, holding, way_of}
-use Rattle.cove_base.specs.PageWords.{host, IsHostWord}
-use Rattle.cove_base.specs.Places.{count_word, epoch_word, answered_word, tvm_word, all_words}
-use Rattle.cove_base.specs.Scripts.{ScriptValue}
-use Rattle.cove_base.specs.Stores.{AllAllowed, stored}
-use Rattle.cove_base.specs.declared.events.Entry.{Entry}
+use Rattle.cove_model.specs.Machine.{HartValue, Holding, Inside, holding, way_of, host, IsHostWord, count_word, epoch_word, answered_word, tvm_word, all_words, ScriptValue, AllAllowed, stored, Entry, ENTRY_LIMIT, Page, Target, IsReached, WasFound, after, IsLawful, Counts, Converts, Frees, Gives, TakesBack, Removes, ChangesTable, Answers, Begins, FencesTvm, Enters, Leaves, Owner, Host, Converting, Free, Given, has, may_use, page_at, root_of, Seat, State, Allows, tlb, FencesWithin, OwnersStand, PageStands, epoch_in, answered_in, maps_of}
 use Rattle.cove_base.specs.declared.events.Walked.{Walked}
 use Rattle.cove_base.specs.declared.events.Walked.TheVariants as walks
-use Rattle.cove_base.specs.declared.limits.TheConstants.{ENTRY_LIMIT}
-use Rattle.cove_base.specs.declared.numbers.Page.{Page}
 use Rattle.cove_base.specs.declared.walks.Noted.{Noted}
-use Rattle.cove_base.specs.declared.walks.Target.{Target}
 use Rattle.cove_base.specs.declared.walks.Target.TheVariants as targets
 use Rattle.cove_model.proofs.AtTheEnd.{each_push, legal_push, tlb_other}
 use Rattle.cove_model.proofs.BesideProofs.{count_leaves_words}
@@ -27,18 +19,9 @@ use Rattle.cove_model.proofs.Ways.{way_apart}
 use Rattle.cove_model.proofs.Histories.{usable}
 use Rattle.cove_model.proofs.Holding.{held_since, holds_able}
 use Rattle.cove_model.specs.BoardRule.{AreBounded, CountsKeepRule, FittingHartsLive, FittingHartsUse, IsLive, IsMonitored, ListsKeepRule, LiveWalksWereRight, RestingHartsLive, StoresKeepRule, StoresKeepWalks, UnusedLives, WalkLives, resting}
-use Rattle.cove_model.specs.Cached.{IsReached, WasFound}
 use Rattle.cove_model.specs.Fits.{Fits, InsideFits, UnusedFits, WalkFits, WayFits, rings_of, seat_of, walked_rings}
-use Rattle.cove_model.specs.Histories.{after}
 use Rattle.cove_model.specs.LawfulCounts.{IsCountable}
-use Rattle.cove_model.specs.LawfulStores.{IsLawful, Counts, Converts, Frees, Gives, TakesBack, Removes, ChangesTable, Answers, Begins, FencesTvm, Enters, Leaves}
-use Rattle.cove_model.specs.Owners.{Owner, Host, Converting, Free, Given, has, may_use, page_at}
-use Rattle.cove_model.specs.Pages.{root_of}
-use Rattle.cove_model.specs.States.{Seat, State}
-use Rattle.cove_model.specs.Steps.{Allows}
 use Rattle.cove_model.specs.StoreLaw.{IsUsableWord, MayUse}
-use Rattle.cove_model.specs.Translations.{tlb}
-use Rattle.cove_model.specs.WordsStand.{FencesWithin, OwnersStand, PageStands, epoch_in, answered_in, maps_of}
 
 -- ---- what words that stand say of a page that a hart may use
 

@@ -1,16 +1,10 @@
 -- The board of every state is the script's.
 use Rattle.std.proofs.Common.{◌≡◌, ℕ, List, length, refl, sym, ap, subst, ◌∙◌, Option, Some, None}
 use Rattle.std.proofs.lemmas.List.{length-replicate}
-use Rattle.cove_base.specs.Scripts.{ScriptValue}
-use Rattle.cove_base.specs.declared.events.Entry.{Entry}
-use Rattle.cove_base.specs.declared.events.Event.{Event}
+use Rattle.cove_model.specs.Machine.{ScriptValue, Entry, Event, after, IsBoardOf, Seat, State, after_event, done, line_ended}
 use Rattle.cove_model.proofs.AtTheEnd.{after_harts_same, after_push, ended_length, from_end, line_pages}
 use Rattle.cove_model.proofs.Frames.{framed_done}
 use Rattle.cove_model.proofs.Runs.{opening_length}
-use Rattle.cove_model.specs.Histories.{after}
-use Rattle.cove_model.specs.Sound.{IsBoardOf}
-use Rattle.cove_model.specs.States.{Seat, State}
-use Rattle.cove_model.specs.Steps.{after_event, done, line_ended}
 
 line_files : (h : ℕ) (o : Option Seat) (S : State) → (line_ended h o S).files ≡ S.files
 line_files h None S = refl

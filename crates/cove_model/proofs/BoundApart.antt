@@ -3,10 +3,7 @@ use Rattle.std.proofs.Common.{◌≡◌, ℕ, ◌+◌, Bool, true, false, cond, 
 use Rattle.std.proofs.lemmas.Bool.{cases_eq, or_cases}
 use Rattle.std.proofs.lemmas.List.{map-append}
 use Rattle.std.proofs.lemmas.Option.{none-some, same_Some}
-use Rattle.cove_base.specs.Scripts.{ScriptValue}
-use Rattle.cove_base.specs.declared.calls.HostCall.{HostCall}
-use Rattle.cove_base.specs.declared.events.Entry.{Entry}
-use Rattle.cove_base.specs.declared.events.Event.{Event}
+use Rattle.cove_model.specs.Machine.{ScriptValue, HostCall, Entry, Event, after, rule, started, alter, at, dropped, left_unbinding, rebound, AreBoundApart, AreDistinct, BoundFile, cpus_of, bound_file_in, bound_file_of, Owner, has, Seat, State, new_cpu, after_event, done, line_ended, Cpu, Tvm, new_tvm}
 use Rattle.cove_base.specs.declared.events.Exit.{Exit}
 use Rattle.cove_model.proofs.AtTheEnd.{after_push, from_end}
 use Rattle.cove_model.proofs.BoundPlaces.{place_altered, place_mapped, places_kept}
@@ -18,15 +15,6 @@ use Rattle.cove_model.proofs.Measuring.{found_kept, found_last}
 use Rattle.cove_model.proofs.Moves.{outcome_state}
 use Rattle.cove_model.proofs.Passing.{Passed}
 use Rattle.cove_model.proofs.Seating.{left_number}
-use Rattle.cove_model.specs.Histories.{after}
-use Rattle.cove_model.specs.HostCalls.{rule, started}
-use Rattle.cove_model.specs.Keyed.{alter, at, dropped}
-use Rattle.cove_model.specs.Mappings.{left_unbinding, rebound}
-use Rattle.cove_model.specs.Orderly.{AreBoundApart, AreDistinct, BoundFile, cpus_of, bound_file_in, bound_file_of}
-use Rattle.cove_model.specs.Owners.{Owner, has}
-use Rattle.cove_model.specs.States.{Seat, State, new_cpu}
-use Rattle.cove_model.specs.Steps.{after_event, done, line_ended}
-use Rattle.cove_model.specs.Tvms.{Cpu, Tvm, new_tvm}
 
 -- ---- one TVM
 

@@ -3,10 +3,7 @@ use Rattle.std.proofs.Common.{◌≡◌, ℕ, map, List, Option, Some, None, opt
 use Rattle.std.proofs.lemmas.Bool.{cases_eq}
 use Rattle.cove_model.proofs.Changes.{place_among, place_at}
 use Rattle.cove_model.proofs.KeyedLemmas.{at_alter_other, at_alter_same, at_map}
-use Rattle.cove_model.specs.Keyed.{alter, at}
-use Rattle.cove_model.specs.Orderly.{bound_file_in}
-use Rattle.cove_model.specs.States.{new_cpu, on_cpu}
-use Rattle.cove_model.specs.Tvms.{Cpu, Tvm, new_tvm}
+use Rattle.cove_model.specs.Machine.{alter, at, bound_file_in, new_cpu, on_cpu, Cpu, Tvm, new_tvm}
 
 module _ (how : Cpu → Cpu) (numbers : (cpu : Cpu) → (how cpu).number ≡ cpu.number) (places : (cpu : Cpu) → bound_file_in (how cpu).binding ≡ bound_file_in cpu.binding) where
   changed : (w : ℕ) (o : Option Cpu) → bound_file_in (unwrap_or (option_map how o) (new_cpu w)).binding ≡ bound_file_in (unwrap_or o (new_cpu w)).binding

@@ -1,15 +1,11 @@
 -- What no call of the host changes: the board's numbers and key, the ended lines, and how many pages there are.
 use Rattle.std.proofs.Common.{◌≡◌, ℕ, ◌+◌, ◌/◌, length, refl, ◌∙◌}
 use Rattle.std.proofs.lemmas.List.{length-map}
-use Rattle.cove_base.specs.declared.calls.HostCall.{HostCall}
-use Rattle.cove_base.specs.declared.calls.HostCall.TheVariants.{Convert, GlobalFence, LocalFence, Reclaim, Create, Tables, Measured, Vcpu, Zero, Remove, Destroy}
+use Rattle.cove_model.specs.Machine.{HostCall, Convert, GlobalFence, LocalFence, Reclaim, Create, Tables, Measured, Zero, Remove, Destroy, is_among, AsData, AsRoot, AsState, AsTable, AsVcpu, change, converted, fence_answered, fenced, reclaimed, without, freed, given_to, removed, State, harts_below}
+use Rattle.cove_base.specs.declared.calls.HostCall.TheVariants.{Vcpu}
 use Rattle.cove_model.proofs.Moves.{outcome_state}
 use Rattle.cove_model.proofs.PageRuns.{length_change_each}
 use Rattle.cove_model.proofs.Runs.{length_change}
-use Rattle.cove_model.specs.GuestPages.{is_among}
-use Rattle.cove_model.specs.Owners.{AsData, AsRoot, AsState, AsTable, AsVcpu, change, converted, fence_answered, fenced, reclaimed, without}
-use Rattle.cove_model.specs.Pages.{freed, given_to, removed}
-use Rattle.cove_model.specs.States.{State, harts_below}
 
 pub record Framed (S T : State) : Type 0 where
   pub harts : T.harts ≡ S.harts

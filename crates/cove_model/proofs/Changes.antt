@@ -8,8 +8,8 @@ use Rattle.std.proofs.lemmas.List.{length-replicate, map-append}
 use Rattle.std.proofs.lemmas.List.FromFn.{length-map-range_with_len}
 use Rattle.cove_base.specs.Ranges.{is_outside}
 use Rattle.cove_base.specs.Measurement.{Record, FinalizeRecord}
-use Rattle.cove_base.specs.declared.calls.HostCall.{HostCall}
-use Rattle.cove_base.specs.declared.calls.HostCall.TheVariants.{Convert, Create, Region, Tables, Measured, Vcpu, Finalize, Zero, Shared, Run, Invalidate, TvmFence, Validate, Remove, Destroy, Bind, Unbind, Unbound, Inject}
+use Rattle.cove_model.specs.Machine.{HostCall, Convert, Create, Region, Tables, Measured, Finalize, Zero, Shared, Run, Invalidate, TvmFence, Validate, Remove, Destroy, Bind, Unbind, Unbound, Inject, is_at, is_mapped_by, remembered, is_among, page_run, page_records, rule, started, page_words_from, alter, at, dropped, blocked_standing, fenced_standing, fenced_unbinding, is_fenced, left_unbinding, mapping_of, may_follow, own_mappings, rebound, restood, shared_mappings, unblocked_standing, AreDistinct, BoundFile, guests_of, bound_file_in, bound_file_of, Owner, every, has, is_free, is_host, page_at, without, words_of, zeros, freed, IsSeated, IsStill, IsHeldWithin, IsSound, IsSoundMapping, IsSoundTvm, Seat, State, find_cpu, find_tvm, harts_inside, new_cpu, on_cpu, tvm_at, left_by, Begun, Binding, Mapping, Standing, Unbinding, Cpu, Tvm, new_tvm}
+use Rattle.cove_base.specs.declared.calls.HostCall.TheVariants.{Vcpu}
 use Rattle.cove_base.specs.declared.events.Exit.{Exit}
 use Rattle.cove_model.proofs.CheckedRuns.{all_hosts, host_words, length_words, memory_given, not_false, zeros_all}
 use Rattle.cove_model.proofs.Cpus.{none_runs}
@@ -20,21 +20,7 @@ use Rattle.cove_model.proofs.Members.{has_with}
 use Rattle.cove_model.proofs.Moves.{none_left, outcome_state}
 use Rattle.cove_model.proofs.Passing.{Passed}
 use Rattle.cove_model.proofs.SoundTvms.{AllSound, blocked_sound, fenced_sound, own_sound, shared_sound}
-use Rattle.cove_model.specs.Checks.{is_at, is_mapped_by}
-use Rattle.cove_model.specs.GuestCalls.{remembered}
-use Rattle.cove_model.specs.GuestPages.{is_among, page_run}
-use Rattle.cove_model.specs.HostCalls.{page_records, rule, started, page_words_from}
-use Rattle.cove_model.specs.Keyed.{alter, at, dropped}
-use Rattle.cove_model.specs.Mappings.{blocked_standing, fenced_standing, fenced_unbinding, is_fenced, left_unbinding, mapping_of, may_follow, own_mappings, rebound, restood, shared_mappings, unblocked_standing}
 use Rattle.cove_model.specs.Measured.{IsPage}
-use Rattle.cove_model.specs.Orderly.{AreDistinct, BoundFile, guests_of, bound_file_in, bound_file_of}
-use Rattle.cove_model.specs.Owners.{Owner, every, has, is_free, is_host, page_at, without, words_of, zeros}
-use Rattle.cove_model.specs.Pages.{freed}
-use Rattle.cove_model.specs.Seated.{IsSeated, IsStill}
-use Rattle.cove_model.specs.Sound.{IsHeldWithin, IsSound, IsSoundMapping, IsSoundTvm}
-use Rattle.cove_model.specs.States.{Seat, State, find_cpu, find_tvm, harts_inside, new_cpu, on_cpu, tvm_at}
-use Rattle.cove_model.specs.Steps.{left_by}
-use Rattle.cove_model.specs.Tvms.{Begun, Binding, Mapping, Standing, Unbinding, Cpu, Tvm, new_tvm}
 
 -- ---- what happens to a TVM
 

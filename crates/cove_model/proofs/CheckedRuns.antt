@@ -4,12 +4,8 @@ use Rattle.std.specs.List.{AllByRecursion, range_with_len}
 use Rattle.cove_base.specs.Ranges.{is_outside}
 use Rattle.cove_model.proofs.Members.{false-true}
 use Rattle.cove_model.proofs.Runs.{every_at, zeros_size}
-use Rattle.cove_model.specs.Owners.{Owner, Host, Converting, Free, Given, AsData, every, is_free, is_host, page_at, words_of, zeros}
-use Rattle.cove_model.specs.Sound.{IsSoundPage}
-use Rattle.cove_model.specs.States.{State}
+use Rattle.cove_model.specs.Machine.{Owner, Host, Converting, Free, Given, AsData, every, is_free, is_host, page_at, words_of, zeros, IsSoundPage, State, giving_memory, given_to}
 use Rattle.cove_model.proofs.PageRuns.{each_inside}
-use Rattle.cove_model.specs.HostCalls.{giving_memory}
-use Rattle.cove_model.specs.Pages.{given_to}
 
 -- ---- what the checks of runs say
 

@@ -4,12 +4,8 @@ use Rattle.std.specs.Option.{option_map_or}
 use Rattle.std.proofs.lemmas.Bool.{cases_eq, and_from, or_cases}
 use Rattle.std.proofs.lemmas.Option.{none-some}
 use Rattle.cove_model.proofs.Members.{has_below}
-use Rattle.cove_model.specs.Owners.{has}
-use Rattle.cove_model.specs.States.{harts_below, Seat, State, find_cpu, is_on, runner}
+use Rattle.cove_model.specs.Machine.{has, harts_below, Seat, State, find_cpu, is_on, runner, alter, at, IsStill, Cpu, Tvm}
 use Rattle.cove_model.proofs.KeyedLemmas.{at_alter_other, at_alter_same, at_append, at_map}
-use Rattle.cove_model.specs.Keyed.{alter, at}
-use Rattle.cove_model.specs.Seated.{IsStill}
-use Rattle.cove_model.specs.Tvms.{Cpu, Tvm}
 
 pub still_refl : (cpu : Cpu) → IsStill cpu cpu
 still_refl cpu = record { x = refl; pc = refl; latched = refl; fuel = refl }

@@ -1,16 +1,8 @@
 -- A step is determined by its entry, and a hart's event by what it looked for and how it came there.
 use Rattle.std.proofs.Common.{◌≡◌, ℕ, Option, Some, None, sym, ap, ◌∙◌, inl, inr}
 use Rattle.std.proofs.lemmas.Option.{same_Some}
-use Rattle.cove_base.specs.Scripts.{ScriptValue}
-use Rattle.cove_base.specs.declared.events.Entry.{Entry}
-use Rattle.cove_base.specs.declared.events.Event.{Event}
-use Rattle.cove_base.specs.declared.events.How.{How}
-use Rattle.cove_base.specs.declared.walks.Target.{Target}
+use Rattle.cove_model.specs.Machine.{ScriptValue, Entry, Event, How, Target, Offer, Nothing, Behind, Single, Touch, offer, State, Allows, IsStep, Takes, Came, Failed, Touched, Arrival, touched, touched_at}
 use Rattle.cove_model.proofs.Aiming.{Shows, offer_shows}
-use Rattle.cove_model.specs.Offers.{Offer, Nothing, Behind, Single, Touch, offer}
-use Rattle.cove_model.specs.States.{State}
-use Rattle.cove_model.specs.Steps.{Allows, IsStep, Takes}
-use Rattle.cove_model.specs.Translations.{Came, Failed, Touched, Arrival, touched, touched_at}
 
 pub one_state : (script : ScriptValue) (before one other : State) (entry : Entry) → IsStep script before entry one → IsStep script before entry other → one ≡ other
 one_state script before one other entry a b = a.1 ∙ sym b.1

@@ -4,12 +4,7 @@ use Rattle.std.specs.List.{list_any, range_with_len}
 use Rattle.std.proofs.lemmas.Bool.{cases_Bool, or_cases, or_left, or_right}
 use Rattle.std.proofs.lemmas.Option.{none-some}
 use Rattle.cove_model.proofs.Members.{false-true, has_append}
-use Rattle.cove_model.specs.Owners.{has}
-use Rattle.cove_model.specs.GuestCalls.{remembered}
-use Rattle.cove_model.specs.Keyed.{alter, at, dropped}
-use Rattle.cove_model.specs.Mappings.{own_mappings, restand, restood, shared_mappings}
-use Rattle.cove_model.specs.Orderly.{AreDistinct}
-use Rattle.cove_model.specs.Tvms.{Mapping, Standing}
+use Rattle.cove_model.specs.Machine.{has, remembered, alter, at, dropped, own_mappings, restand, restood, shared_mappings, AreDistinct, Mapping, Standing}
 
 -- a number is not there, or it is
 not_there : (n : ℕ) (ns : List ℕ) → (has n ns ≡ true → ⊥) → has n ns ≡ false

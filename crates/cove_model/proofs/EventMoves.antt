@@ -1,19 +1,12 @@
 -- What an event does to each page, and to the seats of other harts.
 use Rattle.std.proofs.Common.{◌≡◌, ℕ, Option, Some, None, refl, ap, ◌∙◌, ⊎_elim}
-use Rattle.cove_base.specs.declared.calls.HostCall.{HostCall}
-use Rattle.cove_base.specs.declared.calls.HostCall.TheVariants.{Convert, Run}
-use Rattle.cove_base.specs.declared.events.Event.{Event}
+use Rattle.cove_model.specs.Machine.{HostCall, Convert, Run, Event, Reply, page_at, word_stored, page_of, word_place, Seat, State, refusal, state_by, done, done_at, guest_done, host_done}
 use Rattle.cove_base.specs.declared.events.Event.TheVariants as events
-use Rattle.cove_base.specs.declared.statuses.Reply.{Reply}
 use Rattle.cove_model.proofs.Runs.{change_cases}
-use Rattle.cove_model.specs.Owners.{page_at, word_stored}
-use Rattle.cove_model.specs.States.{page_of, word_place, Seat, State}
 use Rattle.cove_model.proofs.GuestChanges.{Left, Put, Wrote, change_guest, seats_after}
 use Rattle.cove_model.proofs.HartsInside.{seated_other}
 use Rattle.cove_model.proofs.Moves.{Move, Same, Stores, move_call, outcome_state}
 use Rattle.cove_model.proofs.Passing.{row_passed}
-use Rattle.cove_model.specs.Answers.{refusal, state_by}
-use Rattle.cove_model.specs.Steps.{done, done_at, guest_done, host_done}
 
 pub wrote_move : (S T : State) (h p : ℕ) → Wrote S T p → Move S T h (page_at S.pages p) (page_at T.pages p)
 wrote_move S T h p (Left u e) = Same u e

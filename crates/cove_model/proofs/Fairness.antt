@@ -4,32 +4,15 @@ use Rattle.std.specs.Option.{option_map_or}
 use Rattle.std.specs.Prelude.{is_some}
 use Rattle.std.proofs.lemmas.Bool.{le-ltb}
 use Rattle.cove_base.specs.Executions.{plan}
-use Rattle.cove_base.specs.HartLines.{next_line}
+use Rattle.cove_model.specs.Machine.{next_line, ScriptValue, GuestAct, Event, How, Line, ScriptLine, Reply, Target, has, page_of, Seat, State, ended_by, refusal_by, reply_by, Deed, Tires, Fetches, Executes, Loads, Stores, Asks, Waits, Traps, csr_deed, deed_of, deed_with, is_woken, next_place, planned, guest_rule, Single, Touch, access_target, act_event, cpu_of, deed_offer, fault_exit, fetch_target, first_behind, guest_touch, is_found, kicked_offer, line_offer, may_succeed, outside_offer, unkicked_offer, unless_behind, Allows, Takes, Came, Failed, Touched, data_address, guest_touched, host_touched, missed, touched, touched_at, Cpu}
 use Rattle.cove_base.specs.Instructions.{decoded}
 use Rattle.cove_base.specs.Registers.{register}
-use Rattle.cove_base.specs.Scripts.{ScriptValue}
-use Rattle.cove_base.specs.declared.calls.GuestAct.{GuestAct}
 use Rattle.cove_base.specs.declared.calls.GuestAct.TheVariants as acts
-use Rattle.cove_base.specs.declared.events.Event.{Event}
-use Rattle.cove_base.specs.declared.events.How.{How}
 use Rattle.cove_base.specs.declared.instructions.Insn.{Insn}
 use Rattle.cove_base.specs.declared.plans.Plan.{Plan}
 use Rattle.cove_base.specs.declared.plans.Plan.TheVariants as plans
-use Rattle.cove_base.specs.declared.scripts.Line.{Line}
 use Rattle.cove_base.specs.declared.scripts.Line.TheVariants as lines
-use Rattle.cove_base.specs.declared.scripts.ScriptLine.{ScriptLine}
-use Rattle.cove_base.specs.declared.statuses.Reply.{Reply}
-use Rattle.cove_base.specs.declared.walks.Target.{Target}
-use Rattle.cove_model.specs.Owners.{has}
-use Rattle.cove_model.specs.States.{page_of, Seat, State, ended_by}
-use Rattle.cove_model.specs.Answers.{refusal_by, reply_by}
-use Rattle.cove_model.specs.Deeds.{Deed, Tires, Fetches, Executes, Loads, Stores, Asks, Waits, Traps, csr_deed, deed_of, deed_with, is_woken, next_place, planned}
-use Rattle.cove_model.specs.GuestCalls.{guest_rule}
 use Rattle.cove_base.specs.InterruptFiles.{csr_read}
-use Rattle.cove_model.specs.Offers.{Single, Touch, access_target, act_event, cpu_of, deed_offer, fault_exit, fetch_target, first_behind, guest_touch, is_found, kicked_offer, line_offer, may_succeed, outside_offer, unkicked_offer, unless_behind}
-use Rattle.cove_model.specs.Steps.{Allows, Takes}
-use Rattle.cove_model.specs.Translations.{Came, Failed, Touched, data_address, guest_touched, host_touched, missed, touched, touched_at}
-use Rattle.cove_model.specs.Tvms.{Cpu}
 
 -- a success may be, and a fault did not find its target
 abbrev pub IsFair : State → (h : ℕ) → Touched → Type 0

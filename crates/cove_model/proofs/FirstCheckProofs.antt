@@ -4,14 +4,8 @@ use Rattle.std.proofs.lemmas.Bool.{both_ways}
 use Rattle.std.proofs.lemmas.Option.{none-some, same_Some}
 use Rattle.std.specs.List.{AllByRecursion}
 use Rattle.cove_base.specs.Statuses.{is_success}
-use Rattle.cove_base.specs.declared.calls.HostCall.{HostCall}
-use Rattle.cove_base.specs.declared.calls.HostCall.TheVariants.{Info, LocalFence}
-use Rattle.cove_base.specs.declared.statuses.Status.TheVariants.{Success}
-use Rattle.cove_model.specs.HostCalls.{rule}
-use Rattle.cove_model.specs.Answers.{outcome, reply_to, rule_of, state_after}
+use Rattle.cove_model.specs.Machine.{HostCall, Info, LocalFence, Success, rule, outcome, reply_to, rule_of, state_after, Check, first_failing, State}
 use Rattle.cove_model.specs.FirstChecks.{AllPassed, FailsFirst, reply_of}
-use Rattle.cove_model.specs.Refusals.{Check, first_failing}
-use Rattle.cove_model.specs.States.{State}
 
 -- a check of a list fails first, or every one passes
 pub first_or_passed : (checks : List Check) → ((i : ℕ) × ((check : Check) × FailsFirst checks i check)) ⊎ AllPassed checks

@@ -4,15 +4,11 @@ use Rattle.std.proofs.lemmas.Bool.{false≢true}
 use Rattle.std.proofs.lemmas.List.{drop-map, length-map, map-append}
 use Rattle.cove_base.proofs.ScriptLimits.{Limits}
 use Rattle.cove_base.specs.HartPlaces.{IsNextPlace}
-use Rattle.cove_base.specs.HartValues.{HartRings, HartValue, Inside, after_walk, rings_after}
+use Rattle.cove_model.specs.Machine.{HartRings, HartValue, Inside, after_walk, rings_after, ScriptValue, Entry, Page, Target, WasFound, Legal, after, has, ended_by, filled, holds_target, renewed, tlb}
 use Rattle.cove_base.specs.Rings.{found, keep_last, ring_room, ring_with}
-use Rattle.cove_base.specs.Scripts.{ScriptValue}
-use Rattle.cove_base.specs.declared.events.Entry.{Entry}
 use Rattle.cove_base.specs.declared.events.Walked.{Walked}
 use Rattle.cove_base.specs.declared.events.Walked.TheVariants as walks
-use Rattle.cove_base.specs.declared.numbers.Page.{Page}
 use Rattle.cove_base.specs.declared.walks.Noted.{Noted}
-use Rattle.cove_base.specs.declared.walks.Target.{Target}
 use Rattle.cove_base.specs.declared.walks.Target.TheVariants as targets
 use Rattle.cove_model.proofs.AtTheEnd.{own_alone, tlb_other, tlb_same}
 use Rattle.cove_model.proofs.Members.{has_filled}
@@ -20,12 +16,7 @@ use Rattle.cove_model.proofs.Playing.{aimed_other, was_longer}
 use Rattle.cove_model.proofs.Running.{ended_apart, seat_apart, still_since}
 use Rattle.cove_model.proofs.Ways.{root_apart}
 use Rattle.cove_model.specs.BoardRule.{FindsPage, HasFound}
-use Rattle.cove_model.specs.Cached.{WasFound}
 use Rattle.cove_model.specs.Fits.{Fits, InsideFits, IsSought, UnusedFits, WalkFits, WasLed, ring_of, rings_of, seat_of, walked_rings}
-use Rattle.cove_model.specs.Histories.{Legal, after}
-use Rattle.cove_model.specs.Owners.{has}
-use Rattle.cove_model.specs.States.{ended_by}
-use Rattle.cove_model.specs.Translations.{filled, holds_target, renewed, tlb}
 
 -- the host page with a number
 abbrev pub host_at : ℕ → Target

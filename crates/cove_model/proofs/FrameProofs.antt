@@ -3,9 +3,7 @@ use Rattle.std.proofs.Common.{◌≡◌, ℕ, zero, suc, ◌+◌, ◌/◌, ◌<�
 use Rattle.std.proofs.lemmas.Bool.{cases_lt}
 use Rattle.std.proofs.lemmas.List.{length-map}
 use Rattle.std.proofs.lemmas.Grind.{get_or-set_at}
-use Rattle.cove_model.specs.Owners.{Owner, Host, Converting, page_at, without, settled, converted, fenced, fence_answered, reclaimed, zeros}
-use Rattle.cove_model.specs.States.{State, harts_below}
-use Rattle.cove_model.specs.WordsStand.{FrameStands}
+use Rattle.cove_model.specs.Machine.{Owner, Host, Converting, page_at, without, settled, converted, fenced, fence_answered, reclaimed, zeros, State, harts_below, FrameStands}
 use Rattle.cove_model.specs.WordLaws.{zeroed, ConvertKeepsFrames, GlobalFenceKeepsFrames, LocalFenceKeepsFrames, ReclaimZeroesFrames}
 use Rattle.cove_model.proofs.Runs.{change_cases, change_inside, change_outside, length_change, page_map, every_at, run_cases}
 use Rattle.cove_model.proofs.StandLemmas.{free_page}

@@ -1,16 +1,10 @@
 -- What no event changes: the board's numbers and key, the ended lines, and how many pages there are.
 use Rattle.std.proofs.Common.{◌≡◌, ℕ, Option, Some, None, refl}
-use Rattle.cove_base.specs.declared.events.Event.{Event}
+use Rattle.cove_model.specs.Machine.{Event, Reply, refusal, state_by, rule, word_stored, Seat, State, page_of, word_place, done, done_at, host_done}
 use Rattle.cove_base.specs.declared.events.Event.TheVariants as events
-use Rattle.cove_base.specs.declared.statuses.Reply.{Reply}
 use Rattle.cove_model.proofs.CallFrames.{Framed, framed, framed_call}
 use Rattle.cove_model.proofs.GuestChanges.{change_guest}
 use Rattle.cove_model.proofs.Runs.{length_change}
-use Rattle.cove_model.specs.Answers.{refusal, state_by}
-use Rattle.cove_model.specs.HostCalls.{rule}
-use Rattle.cove_model.specs.Owners.{word_stored}
-use Rattle.cove_model.specs.States.{Seat, State, page_of, word_place}
-use Rattle.cove_model.specs.Steps.{done, done_at, host_done}
 
 framed_by : (o : Option Reply) (S T : State) → Framed S T → Framed S (state_by o S T)
 framed_by None S T f = f

@@ -7,12 +7,9 @@ use Rattle.std.proofs.lemmas.Bool.Decides.{nat_tests}
 use Rattle.std.proofs.lemmas.List.{append-nil}
 use Rattle.std.proofs.lemmas.List.Folds.{list_all-append}
 use Rattle.cove_base.proofs.ScriptLimits.{Tests, all_weaker, limits_from_tests, within_from_tests}
-use Rattle.cove_base.specs.declared.limits.TheConstants.{PHASE_LIMIT}
+use Rattle.cove_model.specs.Machine.{PHASE_LIMIT, Line, ScriptLine, is_within_limits, is_fill, is_script_line, is_line_within, phases_rise_from}
 use Rattle.cove_base.specs.declared.faults.Kind.TheVariants.{BadHeader, UnknownWord, BadNumber, WrongCount, OutOfBoard}
-use Rattle.cove_base.specs.declared.scripts.Line.{Line}
-use Rattle.cove_base.specs.declared.scripts.ScriptLine.{ScriptLine}
 use Rattle.cove_base.specs.Text.{text_words}
-use Rattle.cove_base.specs.Scripts.{is_within_limits, is_fill, is_script_line, is_line_within, phases_rise_from}
 use Rattle.cove_model.specs.Grammar.{Word, Reading, is_ascii, is_remark, value, is_hex, line_of, Content, BoardLine, KeyLine, FillLine, PhaseLine, TurnsLine, EndLine, HartLine, content_of, is_header, is_bad_header, is_unknown, has_bad_number, has_wrong_count, is_out_of_board, is_key, fill_of, script_lines, reading_after, judged, words_read, line_read, opening_reading}
 
 -- ---- what a reading keeps

@@ -3,12 +3,10 @@ use Rattle.std.proofs.Common.{◌≡◌, ℕ, ◌/◌, Bool, true, false, true�
 use Rattle.std.specs.Option.{option_map_or}
 use Rattle.cove_base.specs.Executions.{merged}
 use Rattle.cove_base.specs.Registers.{register}
-use Rattle.cove_base.specs.declared.calls.GuestAct.{GuestAct}
+use Rattle.cove_model.specs.Machine.{GuestAct, Event, Reply, refusal, refusal_by, state_after_rule, state_by, evidence_at, guest_rule, guest_word, overwritten, with_words, words_in, is_among, Rule, blocked_standing, left_standing, mapping_of, restand, cpu_of, bound_file_in, Owner, has, page_at, without, word_stored, IsHeldWithin, Seat, State, find_tvm, harts_inside, on_cpu, on_tvm, page_of, seated, tvm_at, word_place, acted, done, done_at, guest_done, guest_stored, host_done, left, on_seat, performed, stored_under, Backing, OwnPage, HostPage, Standing, Present, Blocked, Cpu, Mapping, Tvm}
 use Rattle.cove_base.specs.declared.calls.GuestAct.TheVariants as acts
-use Rattle.cove_base.specs.declared.events.Event.{Event}
 use Rattle.cove_base.specs.declared.events.Event.TheVariants as events
 use Rattle.cove_base.specs.declared.events.Exit.{Exit}
-use Rattle.cove_base.specs.declared.statuses.Reply.{Reply}
 use Rattle.cove_model.proofs.Changes.{Alters, Leaves, StaysBound, NoTvm, Once, OnCpu, OneTvm, Restands, Rewords, Spares, TvmChange, TvmsChange, Twice, Unmeasured, change_call, recpus, remaps, stays, stopped_by, unread}
 use Rattle.cove_model.proofs.BoundPlaces.{places_altered}
 use Rattle.cove_model.proofs.CallFrames.{Framed, framed}
@@ -19,19 +17,7 @@ use Rattle.cove_model.proofs.Passing.{row_passed}
 use Rattle.cove_model.proofs.Runs.{change_cases, length_change}
 use Rattle.cove_model.proofs.SoundPages.{within_both, within_without}
 use Rattle.cove_model.proofs.SoundTvms.{blocked_sound, overwritten_length}
-use Rattle.cove_model.specs.Answers.{refusal, refusal_by, state_after_rule, state_by}
 use Rattle.cove_model.specs.Deeds.{Deed, Tires, Fetches, Executes, Loads, Stores as Writes, Asks, Waits, Traps, deed_of}
-use Rattle.cove_model.specs.GuestCalls.{evidence_at, guest_rule, guest_word, overwritten, with_words, words_in}
-use Rattle.cove_model.specs.GuestPages.{is_among}
-use Rattle.cove_model.specs.HostCalls.{Rule}
-use Rattle.cove_model.specs.Mappings.{blocked_standing, left_standing, mapping_of, restand}
-use Rattle.cove_model.specs.Offers.{cpu_of}
-use Rattle.cove_model.specs.Orderly.{bound_file_in}
-use Rattle.cove_model.specs.Owners.{Owner, has, page_at, without, word_stored}
-use Rattle.cove_model.specs.Sound.{IsHeldWithin}
-use Rattle.cove_model.specs.States.{Seat, State, find_tvm, harts_inside, on_cpu, on_tvm, page_of, seated, tvm_at, word_place}
-use Rattle.cove_model.specs.Steps.{acted, done, done_at, guest_done, guest_stored, host_done, left, on_seat, performed, stored_under}
-use Rattle.cove_model.specs.Tvms.{Backing, OwnPage, HostPage, Standing, Present, Blocked, Cpu, Mapping, Tvm}
 
 -- a page is stored to, or stays
 pub data Wrote (S T : State) (p : ℕ) : Type 0 where

@@ -3,23 +3,15 @@ use Rattle.std.proofs.Common.{◌≡◌, ◌≢◌, ℕ, ◌+◌, ◌*◌, ◌/�
 use Rattle.std.proofs.lemmas.Bool.{cases_eq}
 use Rattle.cove_base.proofs.TableLemmas.{below-absent}
 use Rattle.cove_base.proofs.TreeLemmas.{entry-stands, link-slot}
-use Rattle.cove_base.specs.HartValues.{Holding, Way}
-use Rattle.cove_base.specs.PageWords.{given}
-use Rattle.cove_base.specs.Places.{all_words, count_word, hart_word, table_word, tvm_word}
+use Rattle.cove_model.specs.Machine.{Holding, Way, given, all_words, count_word, hart_word, table_word, tvm_word, AllAllowed, stored, ENTRY_LIMIT, TVM_LIMIT, Page, Root, Table, AreOwned, HasEntered, IsBehindLeaf, IsInside, IsLawful, Counts, Converts, Frees, Gives, TakesBack, Removes, ChangesTable, Answers, Begins, FencesTvm, Enters, Leaves, IsLeft, IsRoot, IsTableOf, TableChange, Links, Maps, Blocks, Unblocks, Unmaps, Rewrites, FencesWithin, number_in}
 use Rattle.cove_base.specs.Rings.{found}
-use Rattle.cove_base.specs.Stores.{AllAllowed, stored}
 use Rattle.cove_base.specs.TableWords.{blocked}
 use Rattle.cove_base.specs.Tables.{Slot, InRoot, InMiddle, InLast, IsLinkSlot, IsSlot, Names, StandsAt, below, entry_at, leaf_at, next_table, present}
-use Rattle.cove_base.specs.declared.limits.TheConstants.{ENTRY_LIMIT, TVM_LIMIT}
-use Rattle.cove_base.specs.declared.numbers.Page.{Page}
-use Rattle.cove_base.specs.declared.numbers.Role.TheVariants.{Root, Table}
 use Rattle.cove_model.proofs.LeafWords.{blocked_next, blocked_none, blocked_same, none_named, present_blocked, present_next, present_none, present_same}
 use Rattle.cove_model.proofs.OwnedStores.{IsOwnPlace, elsewhere_stored, leaves_apart, one_owner, one_root, owned_again, owned_store, root_word, stands_in}
 use Rattle.cove_model.proofs.SlotStores.{EntryMoves, below_named, entries_stay, entry_moves, next_cases}
 use Rattle.cove_model.proofs.StoreLawProofs.{lawful_within, stores_keep_fences}
-use Rattle.cove_model.specs.LawfulStores.{AreOwned, HasEntered, IsBehindLeaf, IsInside, IsLawful, Counts, Converts, Frees, Gives, TakesBack, Removes, ChangesTable, Answers, Begins, FencesTvm, Enters, Leaves, IsLeft, IsRoot, IsTableOf, TableChange, Links, Maps, Blocks, Unblocks, Unmaps, Rewrites}
 use Rattle.cove_model.specs.TableLaw.{CountsKeepGuests, EntersWithin, IsGuestLive, IsWayBy, ListsKeepGuests, MayReach, StoresKeepEntered, StoresKeepGuests, StoresKeepOwned, StoresKeepPresent, ZerosKeepOwned}
-use Rattle.cove_model.specs.WordsStand.{FencesWithin, number_in}
 
 -- ---- words of harts and numbers of TVMs
 

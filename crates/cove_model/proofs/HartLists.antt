@@ -3,9 +3,7 @@ use Rattle.std.proofs.Common.{◌≡◌, ◌≢◌, ℕ, zero, suc, ◌+◌, ◌
 use Rattle.std.proofs.lemmas.Bool.{or_left, false≢true, ltb-true, lt-ltb}
 use Rattle.std.proofs.lemmas.Bool.Decides.{nat_tests}
 use Rattle.std.specs.List.{filter, range_with_len}
-use Rattle.cove_model.specs.Owners.{has, without}
-use Rattle.cove_model.specs.States.{harts_below}
-use Rattle.cove_model.specs.WordsStand.{harts_behind}
+use Rattle.cove_model.specs.Machine.{has, without, harts_below, harts_behind}
 
 filter_range : (p q : ℕ → Bool) (a n : ℕ) → ((k : ℕ) → a ≤ k → k < a + n → p k ≡ q k) → filter p (range_with_len a n) ≡ filter q (range_with_len a n)
 filter_range p q a zero agree = refl

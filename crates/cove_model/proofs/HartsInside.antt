@@ -4,9 +4,7 @@ use Rattle.std.specs.Option.{option_map_or}
 use Rattle.std.proofs.lemmas.Bool.{cases_eq, cond-true, cond-false, ne_eqb}
 use Rattle.cove_model.proofs.HartLists.{range_keeps, range_passes}
 use Rattle.cove_model.proofs.Members.{false-true, has_not, has_with}
-use Rattle.cove_model.specs.Owners.{has, without}
-use Rattle.cove_model.specs.Sound.{Within}
-use Rattle.cove_model.specs.States.{Seat, State, harts_inside, is_in, seated}
+use Rattle.cove_model.specs.Machine.{has, without, Within, Seat, State, harts_inside, is_in, seated}
 
 -- a hart is inside a TVM
 abbrev pub sits_in : State → (t h : ℕ) → Bool

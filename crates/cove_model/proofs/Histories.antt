@@ -4,32 +4,18 @@ use Rattle.std.specs.List.{list_any}
 use Rattle.std.proofs.lemmas.Bool.{cases_Bool, cases_eq, cases_lt, or_cases}
 use Rattle.std.proofs.lemmas.Option.{none-some}
 use Rattle.cove_base.proofs.ScriptLimits.{Limits}
-use Rattle.cove_base.specs.HartLines.{next_line}
-use Rattle.cove_base.specs.Scripts.{ScriptValue}
-use Rattle.cove_base.specs.declared.events.Entry.{Entry}
-use Rattle.cove_base.specs.declared.events.Event.{Event}
-use Rattle.cove_base.specs.declared.scripts.ScriptLine.{ScriptLine}
+use Rattle.cove_model.specs.Machine.{next_line, ScriptValue, Entry, Event, ScriptLine, Converting, Free, Given, Holder, Host, OfTvm, Owner, TheHost, has, holder, is_host, may_use, page_at, IsQuiet, IsQuietAt, Legal, after, own, kicked_offer, outside_offer, unkicked_offer, is_own, mapping_of, page_under, IsBacked, IsSound, IsSoundMapping, IsSoundPage, IsSoundTvm, IsUsable, LeadsTo, Backing, OwnPage, HostPage, Mapping, Tvm, new_tvm, State, ended_by, find_tvm, harts_inside, opening, Allows, Takes, after_event, done, Tlb, names, nothing_held, tlb}
 use Rattle.cove_model.proofs.Members.{false-true}
 use Rattle.cove_model.proofs.Runs.{opening_page, opening_past, opening_size}
 use Rattle.cove_model.proofs.LineHarts.{line_on_board}
-use Rattle.cove_model.specs.Owners.{Converting, Free, Given, Holder, Host, OfTvm, Owner, TheHost, has, holder, is_host, may_use, page_at}
 use Rattle.cove_model.proofs.AtTheEnd.{Allowed, after_harts_same, after_push, each_push, from_end, legal_front, legal_last, line_seats, tlb_other, tlb_same}
 use Rattle.cove_model.proofs.EventMoves.{seat_other}
 use Rattle.cove_model.proofs.SoundGuests.{sound_event}
 use Rattle.cove_model.proofs.Usable.{LeadsOn, leads_on, leads_own, usable_before, usable_other, usable_own}
 use Rattle.cove_model.proofs.UsingPages.{use_holder}
-use Rattle.cove_model.specs.Cached.{IsQuiet, IsQuietAt}
-use Rattle.cove_model.specs.Histories.{Legal, after, own}
-use Rattle.cove_model.specs.Offers.{kicked_offer, outside_offer, unkicked_offer}
 use Rattle.cove_model.proofs.KeyedLemmas.{at_key}
 use Rattle.cove_model.proofs.KeepingCalls.{keeps_done}
 use Rattle.cove_model.proofs.Lists.{all_any, all_at}
-use Rattle.cove_model.specs.Mappings.{is_own, mapping_of, page_under}
-use Rattle.cove_model.specs.Sound.{IsBacked, IsSound, IsSoundMapping, IsSoundPage, IsSoundTvm, IsUsable, LeadsTo}
-use Rattle.cove_model.specs.Tvms.{Backing, OwnPage, HostPage, Mapping, Tvm, new_tvm}
-use Rattle.cove_model.specs.States.{State, ended_by, find_tvm, harts_inside, opening}
-use Rattle.cove_model.specs.Steps.{Allows, Takes, after_event, done}
-use Rattle.cove_model.specs.Translations.{Tlb, names, nothing_held, tlb}
 
 -- whose the page of a mapping is: its TVM's or the host's
 abbrev owner_of : (own : Bool) (t : ℕ) → Holder

@@ -2,12 +2,8 @@
 use Rattle.std.proofs.Common.{◌≡◌, ℕ, ◌<◌, Bool, true, false, eqb, eqb-true, true≢false, ◌&&◌, List, [], ◌∷◌, ◌++◌, refl, sym, ap, subst, ◌∙◌, ⊎_elim, append-nil, append_assoc}
 use Rattle.std.specs.Option.{option_map_or}
 use Rattle.std.proofs.lemmas.Bool.{and_from, and_parts, cases_eq}
-use Rattle.cove_base.specs.Scripts.{ScriptValue}
-use Rattle.cove_base.specs.declared.events.Entry.{Entry}
-use Rattle.cove_base.specs.declared.events.Event.{Event}
-use Rattle.cove_base.specs.declared.walks.Target.{Target}
+use Rattle.cove_model.specs.Machine.{ScriptValue, Entry, Event, Target, may_use, page_at, WasFound, after, own, is_own, is_present, may_follow, page_under, is_found, is_mapped_for, may_succeed, seat_mapping, IsSound, IsUsable, LeadsTo, Seat, State, after_event, done, Tlb, holds_target, Standing, Present, Blocked, Mapping}
 use Rattle.cove_base.specs.declared.walks.Target.TheVariants as target
-use Rattle.cove_model.specs.Owners.{may_use, page_at}
 use Rattle.cove_model.proofs.AtTheEnd.{after_push, from_end, line_pages, own_other, own_same}
 use Rattle.cove_model.proofs.EventMoves.{moves, seat_other}
 use Rattle.cove_model.proofs.Histories.{after_harts, sound}
@@ -15,15 +11,6 @@ use Rattle.cove_model.proofs.KeepingCalls.{keeps_done}
 use Rattle.cove_model.proofs.Lists.{all_any}
 use Rattle.cove_model.proofs.Usable.{is_mapped, leads_kept, leads_line}
 use Rattle.cove_model.proofs.UsingPages.{use_host, use_move}
-use Rattle.cove_model.specs.Cached.{WasFound}
-use Rattle.cove_model.specs.Histories.{after, own}
-use Rattle.cove_model.specs.Mappings.{is_own, is_present, may_follow, page_under}
-use Rattle.cove_model.specs.Offers.{is_found, is_mapped_for, may_succeed, seat_mapping}
-use Rattle.cove_model.specs.Sound.{IsSound, IsUsable, LeadsTo}
-use Rattle.cove_model.specs.States.{Seat, State}
-use Rattle.cove_model.specs.Steps.{after_event, done}
-use Rattle.cove_model.specs.Translations.{Tlb, holds_target}
-use Rattle.cove_model.specs.Tvms.{Standing, Present, Blocked, Mapping}
 
 -- an access of a hart to a target may succeed, by a page that it may use or a mapping that it may follow
 abbrev pub Able : State → (h : ℕ) → Target → Type 0

@@ -2,23 +2,15 @@
 use Rattle.std.proofs.Common.{◌≡◌, ℕ, ◌<◌, ◌≤◌, true, List, ◌∷◌, ◌++◌, length, slice_get, slice_index, Some, None, option_and_then, refl, sym, ◌∙◌, ap, subst, arith, true≢false}
 use Rattle.std.proofs.lemmas.List.{get_or_past}
 use Rattle.std.proofs.lemmas.Option.{none-some, same_Some, slice_get-get_or}
-use Rattle.cove_base.specs.Scripts.{ScriptValue}
-use Rattle.cove_base.specs.declared.events.Entry.{Entry}
-use Rattle.cove_base.specs.declared.events.Event.{Event}
+use Rattle.cove_model.specs.Machine.{ScriptValue, Entry, Event, How, Legal, after, Owner, Host, Converting, Free, Given, Purpose, fence_answered, converted, fenced, may_use, page_at, reclaimed, without, word_stored, words_of, zeros, IsSoundPage, State, harts_below, page_of, word_place, Allows, after_event, done}
 use Rattle.cove_base.specs.declared.events.Event.TheVariants.{Load}
-use Rattle.cove_base.specs.declared.events.How.{How}
 use Rattle.cove_model.proofs.AtTheEnd.{legal_at, line_pages}
 use Rattle.cove_model.proofs.Boards.{board_of}
 use Rattle.cove_model.proofs.EventMoves.{moves}
 use Rattle.cove_model.proofs.Histories.{sound}
 use Rattle.cove_model.proofs.Loads.{load_told}
 use Rattle.cove_model.proofs.Moves.{Move, Same, Converts, Reclaims, Stores, Fences, Responds, Gives, Returns}
-use Rattle.cove_model.specs.Histories.{Legal, after}
 use Rattle.cove_model.specs.HostMemory.{host_memory, host_word, seen_words}
-use Rattle.cove_model.specs.Owners.{Owner, Host, Converting, Free, Given, Purpose, fence_answered, converted, fenced, may_use, page_at, reclaimed, without, word_stored, words_of, zeros}
-use Rattle.cove_model.specs.Sound.{IsSoundPage}
-use Rattle.cove_model.specs.States.{State, harts_below, page_of, word_place}
-use Rattle.cove_model.specs.Steps.{Allows, after_event, done}
 
 -- a page that a hart may use has this word
 seen_word : (S : State) (hart place value : ℕ) (owner : Owner) → place < 512 → IsSoundPage S.harts S.unanswered owner → may_use hart owner ≡ true → value ≡ slice_index (words_of owner) place → option_and_then (λ words. slice_get words place) (seen_words owner) ≡ Some value

@@ -4,14 +4,8 @@ use Rattle.std.specs.List.{list_all, range_with_len}
 use Rattle.std.proofs.lemmas.Bool.{and_parts, cases_eq}
 use Rattle.std.proofs.lemmas.Option.{none-some}
 use Rattle.cove_model.proofs.Members.{has_without}
-use Rattle.cove_model.specs.Owners.{has}
+use Rattle.cove_model.specs.Machine.{has, remembered, reworded, is_among, page_run, at, alter, dropped, blocked_standing, fenced_standing, is_fenced, is_own, left_standing, mapping_of, may_follow, page_under, restand, restood, IsHeldWithin, Backing, OwnPage, HostPage, Standing, Present, Blocked, Mapping, Tvm, new_tvm}
 use Rattle.cove_model.proofs.KeyedLemmas.{at_alter_other, at_alter_same, at_append, at_dropped, at_map}
-use Rattle.cove_model.specs.GuestCalls.{remembered, reworded}
-use Rattle.cove_model.specs.GuestPages.{is_among, page_run}
-use Rattle.cove_model.specs.Keyed.{at, alter, dropped}
-use Rattle.cove_model.specs.Mappings.{blocked_standing, fenced_standing, is_fenced, is_own, left_standing, mapping_of, may_follow, page_under, restand, restood}
-use Rattle.cove_model.specs.Sound.{IsHeldWithin}
-use Rattle.cove_model.specs.Tvms.{Backing, OwnPage, HostPage, Standing, Present, Blocked, Mapping, Tvm, new_tvm}
 
 -- a mapping of the same kind and page, that a hart may still follow
 pub record IsKept (h : ℕ) (m m' : Mapping) : Type 0 where

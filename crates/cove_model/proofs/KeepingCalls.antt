@@ -2,19 +2,13 @@
 use Rattle.std.proofs.Common.{◌≡◌, ℕ, ◌+◌, ◌<◌, true, false, eqb, eq-eqb, true≢false, List, [], ◌∷◌, ◌++◌, Option, Some, None, unwrap_or, refl, sym, ap, subst, ◌∙◌, inl, inr, ◌⊎◌}
 use Rattle.std.specs.Option.{option_map_or}
 use Rattle.std.proofs.lemmas.Bool.{ne_eqb}
-use Rattle.cove_base.specs.declared.events.Event.{Event}
+use Rattle.cove_model.specs.Machine.{Event, at, Owner, has, without, IsSound, Seat, State, find_tvm, harts_inside, is_in, tvm_at, done, Tvm, new_tvm}
 use Rattle.cove_model.proofs.Changes.{Adds, Alters, Drops, Grows, Loses, Maps, NoTvm, Once, OneTvm, Restands, Rewords, TvmsChange, Twice, Unmapped}
 use Rattle.cove_model.proofs.GuestChanges.{change_done}
 use Rattle.cove_model.proofs.HartsInside.{has_inside}
 use Rattle.cove_model.proofs.Keeping.{Keeps, keeps_append, keeps_dropped, keeps_new, keeps_on_tvm, keeps_restood, keeps_same, keeps_then, keeps_words}
 use Rattle.cove_model.proofs.KeyedLemmas.{at_append, at_dropped}
 use Rattle.cove_model.proofs.Members.{has_with, has_without}
-use Rattle.cove_model.specs.Keyed.{at}
-use Rattle.cove_model.specs.Owners.{Owner, has, without}
-use Rattle.cove_model.specs.Sound.{IsSound}
-use Rattle.cove_model.specs.States.{Seat, State, find_tvm, harts_inside, is_in, tvm_at}
-use Rattle.cove_model.specs.Steps.{done}
-use Rattle.cove_model.specs.Tvms.{Tvm, new_tvm}
 
 -- a hart of the board that is inside a TVM
 pub record Sits (S : State) (h : ℕ) (seat : Seat) : Type 0 where

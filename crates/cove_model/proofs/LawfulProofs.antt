@@ -1,11 +1,7 @@
 -- The stores of the calls on owners are lawful.
 use Rattle.std.proofs.Common.{◌≡◌, ℕ, zero, suc, ◌+◌, ◌/◌, ◌<◌, ◌≤◌, List, get_or, set, refl, sym, ◌∙◌, ap, subst, inl, arith, get_or-set_same, get_or-set_other}
 use Rattle.std.proofs.Math.Path.{fun_ext}
-use Rattle.cove_base.specs.PageWords.{host, converting}
-use Rattle.cove_base.specs.Places.{epoch_word, answered_word}
-use Rattle.cove_base.specs.Stores.{AllAllowed, fills}
-use Rattle.cove_model.specs.WordsStand.{FreeStands, epoch_in, answered_in}
-use Rattle.cove_model.specs.LawfulStores.{IsLawful, IsFreeIn, Converts, Frees, Answers, Begins}
+use Rattle.cove_model.specs.Machine.{host, converting, epoch_word, answered_word, AllAllowed, fills, FreeStands, epoch_in, answered_in, IsLawful, IsFreeIn, Converts, Frees, Answers, Begins}
 use Rattle.cove_model.specs.WordLaws.{ConvertIsLawful, GlobalFenceIsLawful, LocalFenceIsLawful, ReclaimIsLawful}
 
 -- pages that are the host's and not mapped, at the last entry and now, go into conversion one after another

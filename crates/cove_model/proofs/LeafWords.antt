@@ -1,10 +1,9 @@
 -- Words of leaves, of next tables and of pages, told apart.
 use Rattle.std.proofs.Common.{◌≡◌, ◌≢◌, ℕ, ◌+◌, ◌*◌, ◌^◌, ◌<◌, ◌≤◌, Bool, true, false, refl, sym, ◌∙◌, inl, inr, ◌⊎◌, arith}
-use Rattle.cove_base.specs.PageWords.{given, host, role_number}
+use Rattle.cove_model.specs.Machine.{given, host, role_number, Role, Root, Table, Vcpu, Data}
 use Rattle.cove_base.specs.TableWords.{blocked}
 use Rattle.cove_base.specs.Tables.{Names, ByBlocked, ByPresent, next_table, present}
-use Rattle.cove_base.specs.declared.numbers.Role.{Role}
-use Rattle.cove_base.specs.declared.numbers.Role.TheVariants.{Root, State, Table, Vcpu, Data}
+use Rattle.cove_base.specs.declared.numbers.Role.TheVariants.{State}
 
 -- ---- page words
 

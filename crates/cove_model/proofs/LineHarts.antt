@@ -3,9 +3,7 @@ use Rattle.std.proofs.Common.{Bool, List, Some, [], cond, eqb, eqb-true, false, 
 use Rattle.std.proofs.lemmas.Option.{none-some, same_Some}
 use Rattle.std.specs.List.{AllByRecursion}
 use Rattle.cove_base.proofs.ScriptLimits.{IsWithin, Limits}
-use Rattle.cove_base.specs.HartLines.{next_line}
-use Rattle.cove_base.specs.Scripts.{ScriptValue}
-use Rattle.cove_base.specs.declared.scripts.ScriptLine.{ScriptLine}
+use Rattle.cove_model.specs.Machine.{next_line, ScriptValue, ScriptLine}
 
 found_line : (pages harts h : ℕ) (ls : List ScriptLine) (n : ℕ) (l : ScriptLine) → AllByRecursion (IsWithin pages harts) ls → slice_get (filter (λ k. eqb k.hart.0 h) ls) n ≡ Some l → (l.hart.0 ≡ h) × IsWithin pages harts l
 found_line pages harts h [] n l all e = absurd (none-some l e)

@@ -1,23 +1,11 @@
 -- What a load that may be made shows, and that a hart which answers a line is outside.
 use Rattle.std.proofs.Common.{◌≡◌, ℕ, true, Option, Some, None, refl, sym, ap, subst, ◌∙◌, inl, inr}
 use Rattle.std.proofs.lemmas.Option.{none-some}
-use Rattle.cove_base.specs.HartLines.{next_line}
-use Rattle.cove_base.specs.Scripts.{ScriptValue}
-use Rattle.cove_base.specs.declared.calls.HostCall.{HostCall}
-use Rattle.cove_base.specs.declared.events.Event.{Event}
+use Rattle.cove_model.specs.Machine.{next_line, ScriptValue, HostCall, Event, How, Line, ScriptLine, Reply, reply_to, first_behind, kicked_offer, line_offer, outside_offer, unkicked_offer, unless_behind, has, may_use, page_at, Seat, State, ended_by, page_of, word_at, Allows, Takes, asked}
 use Rattle.cove_base.specs.declared.events.Event.TheVariants as events
-use Rattle.cove_base.specs.declared.events.How.{How}
-use Rattle.cove_base.specs.declared.scripts.Line.{Line}
 use Rattle.cove_base.specs.declared.scripts.Line.TheVariants as lines
-use Rattle.cove_base.specs.declared.scripts.ScriptLine.{ScriptLine}
-use Rattle.cove_base.specs.declared.statuses.Reply.{Reply}
 use Rattle.cove_model.proofs.Answering.{host_answer}
 use Rattle.cove_model.proofs.Beginning.{inside_tells}
-use Rattle.cove_model.specs.Answers.{reply_to}
-use Rattle.cove_model.specs.Offers.{first_behind, kicked_offer, line_offer, outside_offer, unkicked_offer, unless_behind}
-use Rattle.cove_model.specs.Owners.{has, may_use, page_at}
-use Rattle.cove_model.specs.States.{Seat, State, ended_by, page_of, word_at}
-use Rattle.cove_model.specs.Steps.{Allows, Takes, asked}
 
 -- a hart that may make an event of a line is outside
 pub outside_by_line : (script : ScriptValue) (S : State) (h : ℕ) (event : Event) (line : Line) → asked event ≡ Some line → Allows script S h event → S.seats h ≡ None

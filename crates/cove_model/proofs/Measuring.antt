@@ -1,28 +1,18 @@
 -- What events leave of a TVM: pages are measured while it is built, then its finalize record, and nothing after; and the guest
 -- pages of its mappings differ.
 use Rattle.std.proofs.Common.{◌≡◌, ℕ, ◌+◌, Bool, true, false, cond, eqb, eqb-true, true≢false, not, List, [], ◌∷◌, ◌++◌, Option, Some, None, option_map, refl, sym, ap, subst, ◌∙◌, inl, inr, ◌⊎◌, ⊎_elim}
-use Rattle.cove_model.specs.Owners.{Owner}
+use Rattle.cove_model.specs.Machine.{Owner, ScriptValue, Entry, Event, State, find_tvm, page_run, after, alter, at, dropped, AreDistinct, guests_of, after_event, done, Mapping, Tvm, new_tvm}
 use Rattle.std.specs.List.{AllByRecursion}
 use Rattle.std.proofs.lemmas.Bool.{cases_eq, ne_eqb}
 use Rattle.std.proofs.lemmas.Option.{none-some, same_Some}
 use Rattle.cove_base.specs.Measurement.{Record, FinalizeRecord}
-use Rattle.cove_base.specs.Scripts.{ScriptValue}
-use Rattle.cove_base.specs.declared.events.Entry.{Entry}
-use Rattle.cove_base.specs.declared.events.Event.{Event}
-use Rattle.cove_model.specs.States.{State, find_tvm}
 use Rattle.cove_model.proofs.AtTheEnd.{after_push, from_end, line_tvms}
 use Rattle.cove_model.proofs.Changes.{Adds, Alters, Drops, Finalizes, Grows, Loses, Maps, Measures, NoTvm, Once, OneTvm, Pages, Restands, Rewords, TvmsChange, Twice, Unmapped, Unmeasured}
 use Rattle.cove_model.proofs.GuestChanges.{change_done}
 use Rattle.cove_model.proofs.Distinct.{distinct_filter, keys_dropped, pages_of, pages_remembered, pages_restood}
 use Rattle.cove_model.proofs.KeyedLemmas.{at_alter_other, at_alter_same, at_dropped}
 use Rattle.cove_model.proofs.Lists.{all_append}
-use Rattle.cove_model.specs.GuestPages.{page_run}
-use Rattle.cove_model.specs.Histories.{after}
-use Rattle.cove_model.specs.Keyed.{alter, at, dropped}
-use Rattle.cove_model.specs.Orderly.{AreDistinct, guests_of}
 use Rattle.cove_model.specs.Measured.{AreSealed, IsMeasured, IsPage}
-use Rattle.cove_model.specs.Steps.{after_event, done}
-use Rattle.cove_model.specs.Tvms.{Mapping, Tvm, new_tvm}
 
 -- ---- what an event leaves of a TVM's records
 

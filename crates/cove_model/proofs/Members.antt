@@ -1,8 +1,5 @@
 -- Numbers in lists.
-use Rattle.cove_model.specs.Owners.{has, without}
-use Rattle.cove_model.specs.Sound.{Rises}
-use Rattle.cove_model.specs.States.{harts_below}
-use Rattle.cove_model.specs.Translations.{filled}
+use Rattle.cove_model.specs.Machine.{has, without, Rises, harts_below, filled}
 use Rattle.std.proofs.Common.{List, [], arith, drop, eqb, false, length, not, refl, suc, sym, true, zero, ℕ, ◌++◌, ◌+◌, ◌-◌, ◌<◌, ◌∙◌, ◌∷◌, ◌≡◌, ◌≤◌, ◌⊎◌}
 use Rattle.std.proofs.lemmas.Bool.{cond_both, or_cases, or_right}
 use Rattle.std.proofs.lemmas.Bool.Decides.{nat_tests}

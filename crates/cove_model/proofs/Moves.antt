@@ -2,20 +2,12 @@
 use Rattle.std.proofs.Common.{◌≡◌, ℕ, ◌+◌, ◌/◌, Bool, true, false, List, [], ◌∷◌, refl, sym, ap, subst, ◌∙◌, inl, inr, ◌⊎◌, ⊎_elim, nat_lt, length, arith, lt-ltb, suc, true≢false, eqb, eq-eqb, map, is_none}
 use Rattle.std.proofs.lemmas.Bool.{cond-true, cond-false, and_parts, eqb-true, or_left}
 use Rattle.std.proofs.lemmas.List.{map-append}
-use Rattle.cove_base.specs.declared.calls.HostCall.{HostCall}
-use Rattle.cove_base.specs.declared.calls.HostCall.TheVariants.{Convert, GlobalFence, LocalFence, Reclaim, Create, Tables, Measured, Vcpu, Zero, Remove, Destroy}
+use Rattle.cove_model.specs.Machine.{HostCall, Convert, GlobalFence, LocalFence, Reclaim, Create, Tables, Measured, Zero, Remove, Destroy, Owner, Host, Converting, Free, Given, Purpose, AsRoot, AsState, AsTable, AsVcpu, AsData, fence_answered, change, converted, fenced, has, page_at, reclaimed, without, word_stored, find_tvm, harts_below, harts_inside, State, alter, numbers_of, Tvm, new_tvm, is_among, rule, freed, given_to, is_data_of, is_given, removed}
+use Rattle.cove_base.specs.declared.calls.HostCall.TheVariants.{Vcpu}
 use Rattle.cove_model.proofs.Runs.{change_cases, page_map}
-use Rattle.cove_model.specs.Owners.{Owner, Host, Converting, Free, Given, Purpose, AsRoot, AsState, AsTable, AsVcpu, AsData, fence_answered, change, converted, fenced, has, page_at, reclaimed, without, word_stored}
-use Rattle.cove_model.specs.States.{find_tvm, harts_below, harts_inside, State}
 use Rattle.cove_model.proofs.PageRuns.{each_cases}
 use Rattle.cove_model.proofs.Distinct.{has_right, keys_altered, some_has}
 use Rattle.cove_model.proofs.Passing.{Passed}
-use Rattle.cove_model.specs.Keyed.{alter}
-use Rattle.cove_model.specs.Orderly.{numbers_of}
-use Rattle.cove_model.specs.Tvms.{Tvm, new_tvm}
-use Rattle.cove_model.specs.GuestPages.{is_among}
-use Rattle.cove_model.specs.HostCalls.{rule}
-use Rattle.cove_model.specs.Pages.{freed, given_to, is_data_of, is_given, removed}
 
 -- A page is given to a TVM that is live then, as a root to a new one alone; and a page that is none of its memory is taken back only where no hart is inside
 pub record IsGift (S T : State) (t : ℕ) (purpose : Purpose) : Type 0 where

@@ -1,19 +1,10 @@
 -- What a hart outside is offered, by its next line.
 use Rattle.std.proofs.Common.{◌≡◌, ℕ, Option, Some, None, refl, sym, ap, subst, ◌∙◌}
-use Rattle.cove_base.specs.HartLines.{next_line}
-use Rattle.cove_base.specs.HartValues.{accessed_page}
-use Rattle.cove_base.specs.Scripts.{ScriptValue}
-use Rattle.cove_base.specs.declared.events.Event.{Event}
-use Rattle.cove_base.specs.declared.scripts.Line.{Line}
+use Rattle.cove_model.specs.Machine.{next_line, accessed_page, ScriptValue, Event, Line, ScriptLine, Target, Offer, first_behind, line_offer, offer, outside_offer, sought, target_of, unkicked_offer, unless_behind, State, ended_by, Allows, Takes}
 use Rattle.cove_base.specs.declared.scripts.Line.TheVariants as lines
-use Rattle.cove_base.specs.declared.scripts.ScriptLine.{ScriptLine}
 use Rattle.cove_model.proofs.Fitting.{host_at}
 use Rattle.cove_model.proofs.Unbuilt.{AreOutside, offer_outside}
 use Rattle.cove_model.specs.Aims.{line_aim}
-use Rattle.cove_base.specs.declared.walks.Target.{Target}
-use Rattle.cove_model.specs.Offers.{Offer, first_behind, line_offer, offer, outside_offer, sought, target_of, unkicked_offer, unless_behind}
-use Rattle.cove_model.specs.States.{State, ended_by}
-use Rattle.cove_model.specs.Steps.{Allows, Takes}
 
 -- the page of a line is what it looks for
 pub aim_of_page : (l : Line) (p : ℕ) → accessed_page l ≡ Some p → line_aim l ≡ Some (host_at p)

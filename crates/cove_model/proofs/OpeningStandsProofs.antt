@@ -2,9 +2,7 @@
 use Rattle.std.proofs.Common.{◌≡◌, ℕ, ltb, List, get_or, replicate, refl, sym, subst, arith}
 use Rattle.std.proofs.lemmas.List.{length-replicate}
 use Rattle.std.proofs.lemmas.Bool.{le-ltb}
-use Rattle.cove_base.specs.Places.{epoch_word, answered_word, table_word, tvm_word, hart_word, all_words}
-use Rattle.cove_model.specs.States.{opening}
-use Rattle.cove_model.specs.WordsStand.{PageStands, epoch_in, answered_in, maps_of}
+use Rattle.cove_model.specs.Machine.{epoch_word, answered_word, table_word, tvm_word, hart_word, all_words, opening, PageStands, epoch_in, answered_in, maps_of}
 use Rattle.cove_model.specs.WordLaws.{OpeningWordsStand}
 use Rattle.cove_model.proofs.Lists.{replicate_zero}
 use Rattle.cove_model.proofs.Runs.{opening_page, opening_length}

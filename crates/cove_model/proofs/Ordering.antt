@@ -3,12 +3,8 @@ use Rattle.std.proofs.Common.{◌≡◌, ℕ, ◌+◌, ◌≤◌, Bool, true, fa
 use Rattle.std.specs.List.{AllByRecursion}
 use Rattle.std.proofs.lemmas.Bool.{cases_lt}
 use Rattle.std.proofs.lemmas.List.{map-append}
-use Rattle.cove_base.specs.Scripts.{ScriptValue}
-use Rattle.cove_base.specs.declared.events.Entry.{Entry}
+use Rattle.cove_model.specs.Machine.{ScriptValue, Entry, Owner, Purpose, Host, Converting, Free, Given, converted, fence_answered, fenced, has, page_at, reclaimed, settled, without, word_stored, zeros, freed, harts_below, opening_words, Seat, State, opening, after, AreDistinct, IsOrderly, numbers_of, done, left, line_ended, Tvm, new_tvm}
 use Rattle.cove_model.proofs.Runs.{page_map, opening_page, opening_past}
-use Rattle.cove_model.specs.Owners.{Owner, Purpose, Host, Converting, Free, Given, converted, fence_answered, fenced, has, page_at, reclaimed, settled, without, word_stored, zeros}
-use Rattle.cove_model.specs.Pages.{freed}
-use Rattle.cove_model.specs.States.{harts_below, opening_words, Seat, State, opening}
 use Rattle.cove_model.proofs.AtTheEnd.{after_push, from_end}
 use Rattle.cove_model.proofs.Distinct.{distinct_append, distinct_filter, has_kept, has_left, keys_altered, keys_dropped}
 use Rattle.cove_model.proofs.Changes.{Alters, Grows, Loses, NoTvm, Once, OneTvm, TvmsChange, Twice}
@@ -17,10 +13,6 @@ use Rattle.cove_model.proofs.GuestChanges.{change_done}
 use Rattle.cove_model.proofs.Measuring.{guests_differ}
 use Rattle.cove_model.proofs.Lists.{all_append, all_weaker}
 use Rattle.cove_model.proofs.Moves.{Move, Same, Converts, Reclaims, Stores, Fences, Responds, Gives, Returns}
-use Rattle.cove_model.specs.Histories.{after}
-use Rattle.cove_model.specs.Orderly.{AreDistinct, IsOrderly, numbers_of}
-use Rattle.cove_model.specs.Steps.{done, left, line_ended}
-use Rattle.cove_model.specs.Tvms.{Tvm, new_tvm}
 
 -- ---- how the numbers of the live TVMs change
 

@@ -2,19 +2,15 @@
 use Rattle.std.proofs.Common.{◌≡◌, ◌≢◌, ℕ, zero, suc, ◌+◌, ◌*◌, ◌/◌, ◌%◌, ◌^◌, ◌<◌, ◌≤◌, Bool, true, false, List, get_or, length, set, refl, sym, ap, subst, ◌∙◌, inl, inr, ◌⊎◌, ⊎_elim, arith, get_or-set_other, get_or-set_same}
 use Rattle.std.proofs.lemmas.Bool.{cases_eq, cases_lt}
 use Rattle.cove_base.proofs.TreeLemmas.{entry-stands, link-slot, middle-number, root-number, root≢middle}
-use Rattle.cove_base.specs.PageWords.{converting, given, host, released, role_number}
-use Rattle.cove_base.specs.Places.{all_words, hart_word, table_word}
+use Rattle.cove_model.specs.Machine.{converting, given, host, released, role_number, all_words, hart_word, table_word, Role, Root, Table, Vcpu, Data, AreOwned, HasEntered, IsBehindLeaf, IsInside, IsLawful, Counts, Converts, Frees, Gives, TakesBack, Removes, ChangesTable, Answers, Begins, FencesTvm, Enters, Leaves, IsFreeIn, IsLeft, IsRoot, IsTableOf, LeafNames, TableChange, Links, Maps, Blocks, Unblocks, Unmaps, Rewrites, FreeStands, answered_in, number_in}
 use Rattle.cove_base.specs.TableWords.{blocked}
 use Rattle.cove_base.specs.Tables.{Slot, InRoot, InMiddle, InLast, IsLinkSlot, IsSlot, Names, StandsAt, entry_at, leaf_at, next_table, present}
 use Rattle.cove_base.specs.Tables.{ByBlocked, ByPresent}
-use Rattle.cove_base.specs.declared.numbers.Role.{Role}
-use Rattle.cove_base.specs.declared.numbers.Role.TheVariants.{Root, State, Table, Vcpu, Data}
+use Rattle.cove_base.specs.declared.numbers.Role.TheVariants.{State}
 use Rattle.cove_model.proofs.LeafWords.{blocked_named, blocked_next, given_host, given_number, given_role, next_named, none_named, present_named, present_next, role_small}
 use Rattle.cove_model.proofs.SlotStores.{entries_stay, entry_moves}
 use Rattle.cove_model.proofs.StoreLawProofs.{lawful_within}
-use Rattle.cove_model.specs.LawfulStores.{AreOwned, HasEntered, IsBehindLeaf, IsInside, IsLawful, Counts, Converts, Frees, Gives, TakesBack, Removes, ChangesTable, Answers, Begins, FencesTvm, Enters, Leaves, IsFreeIn, IsLeft, IsRoot, IsTableOf, LeafNames, TableChange, Links, Maps, Blocks, Unblocks, Unmaps, Rewrites}
 use Rattle.cove_model.specs.TableLaw.{StoresKeepOwned, ZerosKeepOwned}
-use Rattle.cove_model.specs.WordsStand.{FreeStands, answered_in, number_in}
 
 -- ---- where slots stand
 

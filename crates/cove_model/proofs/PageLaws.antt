@@ -1,10 +1,7 @@
 -- What the calls do to one page word, over two functions that give the answered numbers before and after.
 use Rattle.std.proofs.Common.{◌≡◌, ◌≢◌, ℕ, ◌+◌, ◌<◌, ◌≤◌, List, [], ◌∷◌, Some, None, refl, sym, ◌∙◌, ap, subst, inl, inr, arith, true}
 use Rattle.std.proofs.lemmas.Bool.{cases_eq, false≢true}
-use Rattle.cove_base.specs.PageWords.{converting}
-use Rattle.cove_model.specs.Owners.{Owner, Host, Converting, Free, has, without, settled, converted, fenced, fence_answered}
-use Rattle.cove_model.specs.States.{harts_below}
-use Rattle.cove_model.specs.WordsStand.{PageStands, IsAnsweredByAll, harts_behind}
+use Rattle.cove_model.specs.Machine.{converting, Owner, Host, Converting, Free, has, without, settled, converted, fenced, fence_answered, harts_below, PageStands, IsAnsweredByAll, harts_behind}
 use Rattle.cove_model.proofs.HartLists.{behind_has, none_behind, has_first, others_behind, without-behind}
 use Rattle.cove_model.proofs.Members.{has_with, has_not, below_has}
 

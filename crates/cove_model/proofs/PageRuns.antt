@@ -1,8 +1,7 @@
 -- Runs of pages that are changed each by its place.
 use Rattle.std.proofs.Common.{◌≡◌, ℕ, zero, suc, ◌+◌, ◌<◌, List, [], ◌∷◌, ◌++◌, length, map, take, drop, refl, sym, ap, ◌∙◌, inl, inr, ◌⊎◌, arith}
 use Rattle.std.specs.List.{enumerate_from}
-use Rattle.cove_model.specs.Owners.{Owner, page_at}
-use Rattle.cove_model.specs.Pages.{change_each}
+use Rattle.cove_model.specs.Machine.{Owner, page_at, change_each}
 
 -- a run at the front of the pages, of which the first has a place
 front_each : (how : ℕ → Owner → Owner) (k n : ℕ) (pages : List Owner) → List Owner

@@ -1,12 +1,7 @@
 -- Where a call is accepted, each of its checks passes.
 use Rattle.std.proofs.Common.{◌≡◌, ℕ, Bool, true, false, cond, List, [], ◌∷◌, Some, None, refl, sym}
 use Rattle.std.proofs.lemmas.Option.{none-some}
-use Rattle.cove_base.specs.declared.calls.HostCall.{HostCall}
-use Rattle.cove_base.specs.declared.statuses.Reply.{Reply}
-use Rattle.cove_model.specs.Refusals.{Check, first_failing}
-use Rattle.cove_model.specs.Answers.{refusal, rule_of}
-use Rattle.cove_model.specs.HostCalls.{rule}
-use Rattle.cove_model.specs.States.{State}
+use Rattle.cove_model.specs.Machine.{HostCall, Reply, Check, first_failing, refusal, rule_of, rule, State}
 
 -- every check passes
 abbrev pub Passed : List Check → Type 0

@@ -1,15 +1,10 @@
 -- Phases: no hart is behind exactly where none has a line of an earlier phase left.
 use Rattle.cove_base.proofs.ScriptLimits.{Limits}
-use Rattle.cove_base.specs.HartLines.{lines_of, next_line}
-use Rattle.cove_base.specs.Scripts.{ScriptValue, phases_rise_from}
-use Rattle.cove_base.specs.declared.scripts.ScriptLine.{ScriptLine}
+use Rattle.cove_model.specs.Machine.{lines_of, next_line, ScriptValue, phases_rise_from, ScriptLine, NoneEarlier, first_behind, is_behind, is_earlier, has, State, ended_by, harts_below}
 use Rattle.cove_model.proofs.Lists.{none_past}
 use Rattle.cove_model.proofs.Members.{below_has, false-true, has_below}
 use Rattle.cove_model.proofs.Progress.{earlier_line}
 use Rattle.cove_model.proofs.Sums.{find_some}
-use Rattle.cove_model.specs.Offers.{NoneEarlier, first_behind, is_behind, is_earlier}
-use Rattle.cove_model.specs.Owners.{has}
-use Rattle.cove_model.specs.States.{State, ended_by, harts_below}
 use Rattle.std.proofs.Common.{Bool, List, None, Option, Some, [], ap, arith, cond, eqb, eqb-true, false, filter, find, inl, inr, le-leb, le_refl, leb-true, ltb-false, nat_le, refl, slice_get, suc, sym, true, zero, ℕ, ◌↔◌, ◌∙◌, ◌∷◌, ◌≡◌, ◌≤◌, ◌⊎◌}
 use Rattle.std.proofs.lemmas.Bool.{and_from, and_parts, cond_both, or_cases}
 use Rattle.std.proofs.lemmas.Option.{none-some, same_Some, slice_get_within}

@@ -3,14 +3,7 @@ use Rattle.std.proofs.Common.{◌≡◌, ℕ, zero, suc, ◌<◌, ◌≤◌, Boo
 use Rattle.std.proofs.lemmas.Bool.{cases_Bool, cases_eq, cond-true, cond-false, cond_both, ne_eqb}
 use Rattle.std.proofs.lemmas.Option.{same_Some}
 use Rattle.cove_base.proofs.ScriptLimits.{Limits}
-use Rattle.cove_base.specs.HartLines.{next_line}
-use Rattle.cove_base.specs.Scripts.{ScriptValue}
-use Rattle.cove_base.specs.declared.events.Entry.{Entry}
-use Rattle.cove_base.specs.declared.events.Event.{Event}
-use Rattle.cove_base.specs.declared.events.How.{How}
-use Rattle.cove_base.specs.declared.events.How.TheVariants.{Hit, Walk}
-use Rattle.cove_base.specs.declared.walks.Target.{Target}
-use Rattle.cove_model.specs.States.{harts_below, Seat, State, ended_by}
+use Rattle.cove_model.specs.Machine.{next_line, ScriptValue, Entry, Event, How, Hit, Walk, Target, harts_below, Seat, State, ended_by, IsCached, IsReached, ReachesWhere, WasFound, Legal, after, Offer, Nothing, Behind, Single, Touch, cpu_of, is_found, may_succeed, offer, sought, Note, Unwalked, WalkFound, WalkMissed, Play, ended_event, ending, enough, entered, entry_by, entry_turn, noted, played_out, round, rounds, sought_turn, turn, unplayed, walked, walks_first, Allows, Takes, done, holds_target, tlb}
 use Rattle.cove_model.proofs.Aiming.{Shows, aim_still, offer_shows, sought_aims}
 use Rattle.cove_model.specs.Aims.{aimed_at, next_aim}
 use Rattle.cove_model.proofs.AtTheEnd.{after_push, each_push, ended_other, legal_push, line_seats, own_alone, own_other}
@@ -18,12 +11,7 @@ use Rattle.cove_model.proofs.EventMoves.{seat_other}
 use Rattle.cove_model.proofs.Histories.{entry_on_board, usable}
 use Rattle.cove_model.proofs.Holding.{able_succeeds, found_able, held_since, holds_able}
 use Rattle.cove_model.proofs.Running.{still_since}
-use Rattle.cove_model.specs.Cached.{IsCached, IsReached, ReachesWhere, WasFound}
-use Rattle.cove_model.specs.Histories.{Legal, after}
-use Rattle.cove_model.specs.Offers.{Offer, Nothing, Behind, Single, Touch, cpu_of, is_found, may_succeed, offer, sought}
-use Rattle.cove_model.specs.Played.{Note, Unwalked, WalkFound, WalkMissed, Play, ended_event, ending, enough, entered, entry_by, entry_turn, noted, played, played_out, round, rounds, sought_turn, turn, unplayed, walked, walks_first}
-use Rattle.cove_model.specs.Steps.{Allows, Takes, done}
-use Rattle.cove_model.specs.Translations.{holds_target, tlb}
+use Rattle.cove_model.specs.Played.{played}
 
 -- a walk that found its target did so since the hart's last entry, and the hart looks for it
 abbrev NoteFits : ScriptValue → List Entry → (h : ℕ) → Note → Type 0

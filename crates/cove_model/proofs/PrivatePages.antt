@@ -1,16 +1,9 @@
 -- A TVM's own page is not the host's.
 use Rattle.std.proofs.Common.{◌≡◌, ℕ, List, Some, None, ap, subst}
-use Rattle.cove_base.specs.Scripts.{ScriptValue}
-use Rattle.cove_base.specs.declared.events.Entry.{Entry}
+use Rattle.cove_model.specs.Machine.{ScriptValue, Entry, page_at, after, mapping_of, IsBacked, IsSoundMapping, IsSoundTvm, find_tvm, harts_inside, Mapping, OwnPage, Tvm}
 use Rattle.cove_model.specs.HostMemory.{seen_words}
-use Rattle.cove_model.specs.Owners.{page_at}
 use Rattle.cove_model.proofs.Histories.{sound}
 use Rattle.cove_model.proofs.Lists.{all_at}
-use Rattle.cove_model.specs.Histories.{after}
-use Rattle.cove_model.specs.Mappings.{mapping_of}
-use Rattle.cove_model.specs.Sound.{IsBacked, IsSoundMapping, IsSoundTvm}
-use Rattle.cove_model.specs.States.{find_tvm, harts_inside}
-use Rattle.cove_model.specs.Tvms.{Mapping, OwnPage, Tvm}
 
 pub own_unseen : (script : ScriptValue) (H : List Entry) (tvm : Tvm) (m : Mapping) (t g page : ℕ) (words : List ℕ)
     → find_tvm (after script H) t ≡ Some tvm → mapping_of tvm g ≡ Some m → m.backing ≡ OwnPage page words

@@ -3,24 +3,12 @@ use Rattle.std.proofs.Common.{◌≡◌, ◌≢◌, ℕ, zero, suc, ◌+◌, ◌
 use Rattle.std.specs.List.{AllByRecursion, range_with_len}
 use Rattle.std.proofs.lemmas.Bool.{cases_eq, cases_lt, cond-true, cond_both}
 use Rattle.std.proofs.lemmas.List.{length_push}
-use Rattle.cove_base.specs.HartLines.{next_line}
-use Rattle.cove_base.specs.Scripts.{ScriptValue}
-use Rattle.cove_base.specs.declared.events.Event.{Event}
-use Rattle.cove_base.specs.declared.events.How.{How}
-use Rattle.cove_base.specs.declared.scripts.Line.{Line}
+use Rattle.cove_model.specs.Machine.{next_line, ScriptValue, Event, How, Line, ScriptLine, Target, has, harts_below, Seat, State, ended_by, Deed, Tires, Fetches, Executes, Loads, Stores, Asks, Waits, Traps, deed_of, after, Offer, Nothing, Behind, Single, Touch, access_target, cpu_of, deed_offer, fault_exit, fetch_target, first_behind, guest_touch, is_behind, is_earlier, is_found, kicked_offer, line_offer, offer, outside_offer, sought, unkicked_offer, unless_behind, IsEnded, Note, Unwalked, WalkFound, WalkMissed, Play, ended_event, ending, enough, entered, entry_by, entry_turn, noted, round, rounds, sought_turn, turn, unplayed, walked, walks_first, holds_target, tlb}
 use Rattle.cove_base.specs.declared.scripts.Line.TheVariants as lines
-use Rattle.cove_base.specs.declared.scripts.ScriptLine.{ScriptLine}
-use Rattle.cove_base.specs.declared.walks.Target.{Target}
 use Rattle.cove_model.proofs.Members.{below_has, false-true}
 use Rattle.cove_model.proofs.Sums.{find_some, harts_are_below, sum_below, sum_changed}
-use Rattle.cove_model.specs.Owners.{has}
-use Rattle.cove_model.specs.States.{harts_below, Seat, State, ended_by}
 use Rattle.cove_model.proofs.Playing.{noted_other, noted_same, rounds_stay, turn_full}
-use Rattle.cove_model.specs.Deeds.{Deed, Tires, Fetches, Executes, Loads, Stores, Asks, Waits, Traps, deed_of}
-use Rattle.cove_model.specs.Histories.{after}
-use Rattle.cove_model.specs.Offers.{Offer, Nothing, Behind, Single, Touch, access_target, cpu_of, deed_offer, fault_exit, fetch_target, first_behind, guest_touch, is_behind, is_earlier, is_found, kicked_offer, line_offer, offer, outside_offer, sought, unkicked_offer, unless_behind}
-use Rattle.cove_model.specs.Played.{IsEnded, Note, Unwalked, WalkFound, WalkMissed, Play, ended_event, ending, enough, entered, entry_by, entry_turn, noted, played, round, rounds, sought_turn, turn, unplayed, walked, walks_first}
-use Rattle.cove_model.specs.Translations.{holds_target, tlb}
+use Rattle.cove_model.specs.Played.{played}
 
 -- ---- the measure: entries count twice, and a walk that isn't used yet once
 

@@ -1,16 +1,6 @@
 -- Worked scripts and the histories that they play, written by bench/worked.
 use Rattle.std.proofs.Common.{◌≡◌, ℕ, List, [], ◌∷◌, refl}
-use Rattle.cove_base.specs.Scripts.{ScriptValue}
-use Rattle.cove_base.specs.declared.calls.HostCall.TheVariants.{Convert, GlobalFence, LocalFence, Reclaim, Info}
-use Rattle.cove_base.specs.declared.events.Entry.{Entry}
-use Rattle.cove_base.specs.declared.events.Event.{Event}
-use Rattle.cove_base.specs.declared.events.How.TheVariants.{Hit, Walk}
-use Rattle.cove_base.specs.declared.scripts.Fill.{Fill}
-use Rattle.cove_base.specs.declared.scripts.Line.{Line}
-use Rattle.cove_base.specs.declared.scripts.ScriptLine.{ScriptLine}
-use Rattle.cove_base.specs.declared.statuses.Reply.{Reply}
-use Rattle.cove_base.specs.declared.statuses.Status.{Status}
-use Rattle.cove_base.specs.declared.statuses.Status.TheVariants.{Success, InvalidAddress, AlreadyStarted}
+use Rattle.cove_model.specs.Machine.{ScriptValue, Convert, GlobalFence, LocalFence, Reclaim, Info, Entry, Event, Hit, Walk, Fill, Line, ScriptLine, Reply, Status, Success, InvalidAddress, AlreadyStarted}
 use Rattle.cove_base.specs.InterruptFiles.{identities, those, least}
 use Rattle.cove_model.specs.Owners.{zeros}
 use Rattle.cove_model.specs.States.{opening_words}

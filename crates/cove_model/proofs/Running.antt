@@ -2,20 +2,13 @@
 use Rattle.std.proofs.Common.{◌≡◌, ℕ, ◌<◌, List, [], ◌∷◌, ◌++◌, Option, None, Some, unwrap_or, refl, sym, ap, subst, ◌∙◌, append-nil, append_assoc}
 use Rattle.std.proofs.lemmas.Option.{none-some}
 use Rattle.cove_base.proofs.ScriptLimits.{Limits}
-use Rattle.cove_base.specs.Scripts.{ScriptValue}
-use Rattle.cove_base.specs.declared.events.Entry.{Entry}
+use Rattle.cove_model.specs.Machine.{ScriptValue, Entry, Legal, after, own, cpu_of, IsOn, IsSeated, IsStill, Seat, State, cpu_at, ended_by, new_cpu, opening, after_event, done, Cpu, Tvm, new_tvm}
 use Rattle.cove_model.proofs.AtTheEnd.{after_push, ended_other, from_end, legal_front, legal_last, line_seats, line_tvms}
 use Rattle.cove_model.proofs.Cpus.{TvmStays, still_refl, still_then, tvm_stays, tvm_then}
 use Rattle.cove_model.proofs.EventMoves.{seat_other}
 use Rattle.cove_model.proofs.Histories.{after_harts, entry_on_board}
 use Rattle.cove_model.proofs.Holding.{silent_parts}
 use Rattle.cove_model.proofs.Seating.{seated_event, still_done}
-use Rattle.cove_model.specs.Histories.{Legal, after, own}
-use Rattle.cove_model.specs.Offers.{cpu_of}
-use Rattle.cove_model.specs.Seated.{IsOn, IsSeated, IsStill}
-use Rattle.cove_model.specs.States.{Seat, State, cpu_at, ended_by, new_cpu, opening}
-use Rattle.cove_model.specs.Steps.{after_event, done}
-use Rattle.cove_model.specs.Tvms.{Cpu, Tvm, new_tvm}
 
 -- a board of which no hart is inside is seated
 pub none_seated : (S : State) → ((h : ℕ) → S.seats h ≡ None) → IsSeated S

@@ -1,8 +1,7 @@
 -- Runs of pages, page by page.
-use Rattle.cove_base.specs.Scripts.{ScriptValue}
-use Rattle.cove_base.specs.declared.scripts.Fill.{Fill}
-use Rattle.cove_model.specs.Owners.{Free, Host, Owner, change, every, page_at, zeros}
-use Rattle.cove_model.specs.States.{opening, opening_byte, opening_words}
+use Rattle.cove_model.specs.Machine.{ScriptValue, Fill, Free, Host, Owner, change, every, page_at, opening, opening_byte}
+use Rattle.cove_model.specs.Owners.{zeros}
+use Rattle.cove_model.specs.States.{opening_words}
 use Rattle.std.specs.Int.{from_le_bytes, w64}
 use Rattle.std.proofs.Common.{Bool, List, [], arith, drop, inl, inr, length, map, refl, suc, sym, take, true, zero, ℕ, ⊎_elim, ◌*◌, ◌+◌, ◌-◌, ◌<◌, ◌∷◌, ◌≡◌, ◌≤◌, ◌⊎◌}
 use Rattle.std.proofs.lemmas.Grind.{common_steps}

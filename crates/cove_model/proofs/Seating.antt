@@ -2,14 +2,9 @@
 use Rattle.std.proofs.Common.{◌≡◌, ℕ, ◌+◌, ◌<◌, true, false, eqb, true≢false, map, List, [], ◌∷◌, Option, Some, None, is_some, is_none, unwrap_or, option_map, refl, sym, ap, subst, ◌∙◌, inl, inr, ◌⊎◌, ⊎_elim}
 use Rattle.std.proofs.lemmas.Bool.{cases_eq, ne_eqb}
 use Rattle.std.proofs.lemmas.Option.{none-some, same_Some}
-use Rattle.cove_base.specs.declared.calls.HostCall.{HostCall}
-use Rattle.cove_base.specs.declared.calls.HostCall.TheVariants.{Convert, Run}
-use Rattle.cove_base.specs.declared.events.Event.{Event}
+use Rattle.cove_model.specs.Machine.{HostCall, Convert, Run, Event, Reply, Owner, has, Seat, State, find_cpu, find_tvm, harts_inside, new_cpu, on_cpu, runner, tvm_at, refusal, state_by, rule, at, left_unbinding, rebound, IsOn, IsSeated, IsStill, after_event, done, done_at, end_line, guest_done, host_done, left_by, line_ended, Cpu, Tvm, Unbinding, new_tvm}
 use Rattle.cove_base.specs.declared.events.Event.TheVariants as events
 use Rattle.cove_base.specs.declared.events.Exit.{Exit}
-use Rattle.cove_base.specs.declared.statuses.Reply.{Reply}
-use Rattle.cove_model.specs.Owners.{Owner, has}
-use Rattle.cove_model.specs.States.{Seat, State, find_cpu, find_tvm, harts_inside, new_cpu, on_cpu, runner, tvm_at}
 use Rattle.cove_model.proofs.Cpus.{AllStay, Anyhow, TvmStays, none_runs, stay_append, stay_map, stay_on_cpu, stay_same, stay_then, still_refl, still_then, tvm_altered, tvm_stays, tvm_then}
 use Rattle.cove_model.proofs.EventMoves.{seat_other}
 use Rattle.cove_model.proofs.Frames.{framed_done}
@@ -21,13 +16,6 @@ use Rattle.cove_model.proofs.Passing.{Passed, row_passed}
 use Rattle.cove_model.proofs.Changes.{AddsCpu, Alters, Cpus, CpusStay, Finalizes, Grows, Leaves, Loses, Measures, NoTvm, Once, OnCpu, OneTvm, Pages, Rebinds, Spares, Starts, TvmsChange, Twice, Unmeasured, stopped_by}
 use Rattle.cove_model.proofs.CheckedRuns.{not_false}
 use Rattle.cove_model.proofs.GuestChanges.{change_done, change_guest, seats_after}
-use Rattle.cove_model.specs.Answers.{refusal, state_by}
-use Rattle.cove_model.specs.HostCalls.{rule}
-use Rattle.cove_model.specs.Keyed.{at}
-use Rattle.cove_model.specs.Mappings.{left_unbinding, rebound}
-use Rattle.cove_model.specs.Seated.{IsOn, IsSeated, IsStill}
-use Rattle.cove_model.specs.Steps.{after_event, done, done_at, end_line, guest_done, host_done, left_by, line_ended}
-use Rattle.cove_model.specs.Tvms.{Cpu, Tvm, Unbinding, new_tvm}
 
 -- R holds of what is done to a vCPU, where that is the one that is changed
 abbrev Suits : (R : Cpu → Cpu → Type 0) (S : State) (h u v : ℕ) → Type 0

@@ -3,10 +3,7 @@ use Rattle.std.proofs.Common.{◌≡◌, ℕ, Bool, true, false, eqb, eqb-true, 
 use Rattle.std.proofs.lemmas.Bool.{cases_Bool, false≢true}
 use Rattle.std.specs.List.{AllByRecursion, filter_map, flat_map}
 use Rattle.cove_model.proofs.Members.{false-true, has_append}
-use Rattle.cove_model.specs.Owners.{Owner, Free, has, is_host, page_at}
-use Rattle.cove_model.specs.Sound.{IsBacked, IsSound, IsSoundMapping, IsSoundTvm}
-use Rattle.cove_model.specs.States.{State, shared_pages, shown_page}
-use Rattle.cove_model.specs.Tvms.{Backing, HostPage, Mapping, OwnPage, Tvm}
+use Rattle.cove_model.specs.Machine.{Owner, Free, has, is_host, page_at, IsBacked, IsSound, IsSoundMapping, IsSoundTvm, State, shared_pages, shown_page, Backing, HostPage, Mapping, OwnPage, Tvm}
 
 module _ (pages : List Owner) where
   abbrev IsHosts : ℕ → Type 0

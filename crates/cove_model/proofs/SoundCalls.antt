@@ -2,13 +2,10 @@
 use Rattle.std.proofs.Common.{◌≡◌, ℕ, cond, ◌+◌, ◌/◌, ◌<◌, ◌≤◌, Bool, true, false, ◌&&◌, ◌||◌, not, nat_le, nat_lt, eqb, map, flat_map, filter_map, List, [], ◌∷◌, ◌++◌, Option, Some, None, refl, sym, ap, subst, ◌∙◌, inl, inr, ◌⊎◌, ⊎_elim, eqb-true, eq-eqb, true≢false}
 use Rattle.std.specs.List.{AllByRecursion, list_any, cons_option}
 use Rattle.std.proofs.lemmas.Bool.{and_from, cases_lt, le-leb, lt-ltb}
-use Rattle.cove_base.specs.declared.calls.HostCall.{HostCall}
-use Rattle.cove_base.specs.declared.calls.HostCall.TheVariants.{Convert, GlobalFence, LocalFence, Reclaim, Create, Tables, Measured, Vcpu, Zero, Run, Remove, Destroy}
+use Rattle.cove_model.specs.Machine.{HostCall, Convert, GlobalFence, LocalFence, Reclaim, Create, Tables, Measured, Zero, Run, Remove, Destroy, Owner, Host, Converting, Free, Given, Purpose, AsRoot, AsState, AsTable, AsVcpu, AsData, fence_answered, change, converted, fenced, is_host, page_at, reclaimed, without, Within, IsBacked, IsHeldWithin, IsSound, IsSoundMapping, IsSoundTvm, harts_below, State, harts_inside, shown_page, is_among, rule, alter, dropped, freed, given_to, removed, Backing, OwnPage, HostPage, Mapping, Standing, Present, Blocked, Tvm, new_tvm}
+use Rattle.cove_base.specs.declared.calls.HostCall.TheVariants.{Vcpu}
 use Rattle.cove_model.proofs.Members.{false-true}
 use Rattle.cove_model.proofs.Runs.{change_cases, change_outside, page_map}
-use Rattle.cove_model.specs.Owners.{Owner, Host, Converting, Free, Given, Purpose, AsRoot, AsState, AsTable, AsVcpu, AsData, fence_answered, change, converted, fenced, is_host, page_at, reclaimed, without}
-use Rattle.cove_model.specs.Sound.{Within, IsBacked, IsHeldWithin, IsSound, IsSoundMapping, IsSoundTvm}
-use Rattle.cove_model.specs.States.{harts_below, State, harts_inside, shown_page}
 use Rattle.cove_model.proofs.Changes.{Adds, Alters, Drops, Grows, Loses, Maps, NoTvm, Once, OneTvm, Restands, Rewords, TvmsChange, Twice, Unmapped, change_call}
 use Rattle.cove_model.proofs.HartsInside.{inside_entered}
 use Rattle.cove_model.proofs.Lists.{all_append, all_filter, all_weaker}
@@ -16,11 +13,6 @@ use Rattle.cove_model.proofs.Moves.{Move, move_call, outcome_state}
 use Rattle.cove_model.proofs.Passing.{Passed}
 use Rattle.cove_model.proofs.SoundPages.{IsSteady, IsSteadyPage, backed_steady, board_move, rising_move, sound_move, steady_change, steady_each, steady_f, steady_map, steady_refl, steady_then}
 use Rattle.cove_model.proofs.SoundTvms.{AllSound, dropped_sound, remembered_sound, restood_sound, tvms_altered, tvms_moved}
-use Rattle.cove_model.specs.GuestPages.{is_among}
-use Rattle.cove_model.specs.HostCalls.{rule}
-use Rattle.cove_model.specs.Keyed.{alter, dropped}
-use Rattle.cove_model.specs.Pages.{freed, given_to, removed}
-use Rattle.cove_model.specs.Tvms.{Backing, OwnPage, HostPage, Mapping, Standing, Present, Blocked, Tvm, new_tvm}
 
 -- a state is sound where its pages moved from those of a sound one, and its TVMs are
 pub sound_from : (S T : State) (h : ℕ) → T.harts ≡ S.harts → ((p : ℕ) → Move S T h (page_at S.pages p) (page_at T.pages p))

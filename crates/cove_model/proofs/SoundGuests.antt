@@ -1,14 +1,10 @@
 -- An event of a hart leaves a sound state, whether it may be made or not.
 use Rattle.std.proofs.Common.{◌≡◌, ℕ, ◌<◌, ap, true, false, List, Option, Some, None, refl, sym, subst, ◌∙◌, ⊎_elim}
 use Rattle.std.specs.Option.{option_map_or}
-use Rattle.cove_base.specs.declared.events.Event.{Event}
+use Rattle.cove_model.specs.Machine.{Event, Reply, change, page_at, without, word_stored, Within, IsHeldWithin, IsSound, IsSoundMapping, IsSoundTvm, page_of, word_place, Seat, State, harts_inside, is_in, on_cpu, seated, refusal, state_by, left_standing, left_tvm, restand, done, done_at, guest_done, host_done, left, left_by, line_ended, end_line, after_event, Standing, Present, Blocked, Tvm}
 use Rattle.cove_base.specs.declared.events.Event.TheVariants as events
 use Rattle.cove_base.specs.declared.events.Exit.{Exit}
-use Rattle.cove_base.specs.declared.statuses.Reply.{Reply}
 use Rattle.cove_model.proofs.Runs.{change_cases}
-use Rattle.cove_model.specs.Owners.{change, page_at, without, word_stored}
-use Rattle.cove_model.specs.Sound.{Within, IsHeldWithin, IsSound, IsSoundMapping, IsSoundTvm}
-use Rattle.cove_model.specs.States.{page_of, word_place, Seat, State, harts_inside, is_in, on_cpu, seated}
 use Rattle.cove_model.proofs.HartsInside.{has_inside, inside_apart, inside_has, inside_left}
 use Rattle.cove_model.proofs.GuestChanges.{GetsUp, InsideChange, Left, Put, SeatChange, Stays, Wrote, change_guest}
 use Rattle.cove_model.proofs.EventMoves.{wrote_move}
@@ -18,10 +14,6 @@ use Rattle.cove_model.proofs.Lists.{all_map, all_weaker}
 use Rattle.cove_model.proofs.SoundCalls.{entered_held, sound_call, sound_from, sound_steady}
 use Rattle.cove_model.proofs.SoundPages.{IsSteadyPage, steady_change, steady_f, steady_same}
 use Rattle.cove_model.proofs.SoundTvms.{AllSound, left_sound, tvms_changed, tvms_moved, tvms_steady}
-use Rattle.cove_model.specs.Answers.{refusal, state_by}
-use Rattle.cove_model.specs.Mappings.{left_standing, left_tvm, restand}
-use Rattle.cove_model.specs.Steps.{done, done_at, guest_done, host_done, left, left_by, line_ended, end_line, after_event}
-use Rattle.cove_model.specs.Tvms.{Standing, Present, Blocked, Tvm}
 
 -- a word of the host's memory is stored
 pub sound_store : (S : State) (h place value page : ℕ) → IsSound S → IsSound (record S { pages = change (word_stored place value) page 1 S.pages })

@@ -3,13 +3,9 @@ use Rattle.std.proofs.Common.{◌≡◌, ℕ, map, true, List, [], ◌∷◌, So
 use Rattle.std.proofs.lemmas.Bool.{cases_eq}
 use Rattle.cove_model.proofs.Members.{false-true, has_not, has_with, has_without, rises_below, rises_without}
 use Rattle.cove_model.proofs.Runs.{change_cases, page_map, zeros_size}
-use Rattle.cove_model.specs.Owners.{Owner, Host, Converting, Free, Given, Purpose, AsData, fence_answered, converted, fenced, has, is_host, page_at, reclaimed, settled, change, without, word_stored}
-use Rattle.cove_model.specs.Sound.{Rises, Within, IsBacked, IsSoundPage}
-use Rattle.cove_model.specs.States.{harts_below, State}
+use Rattle.cove_model.specs.Machine.{Owner, Host, Converting, Free, Given, Purpose, AsData, fence_answered, converted, fenced, has, is_host, page_at, reclaimed, settled, change, without, word_stored, Rises, Within, IsBacked, IsSoundPage, harts_below, State, change_each, Backing, OwnPage, HostPage}
 use Rattle.cove_model.proofs.Moves.{Move, Same, Converts, Reclaims, Stores, Fences, Responds, Gives, Returns}
 use Rattle.cove_model.proofs.PageRuns.{each_cases}
-use Rattle.cove_model.specs.Pages.{change_each}
-use Rattle.cove_model.specs.Tvms.{Backing, OwnPage, HostPage}
 
 -- ---- lists of harts
 

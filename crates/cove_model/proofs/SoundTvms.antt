@@ -2,18 +2,12 @@
 use Rattle.std.proofs.Common.{◌≡◌, ℕ, zero, suc, ◌+◌, ◌-◌, ◌<◌, nat_lt, slice_index, get_or, Bool, true, false, cond, eqb, eqb-true, eq-eqb, true≢false, not, map, List, [], ◌∷◌, Some, None, length, refl, sym, ap, subst, ◌∙◌, arith}
 use Rattle.std.specs.List.{AllByRecursion}
 use Rattle.cove_model.proofs.Members.{false-true}
-use Rattle.cove_model.specs.Owners.{Owner, Given, AsData, is_host, page_at, without}
-use Rattle.cove_model.specs.Sound.{Within, IsBacked, IsHeldWithin, IsSoundMapping, IsSoundTvm}
+use Rattle.cove_model.specs.Machine.{Owner, Given, AsData, is_host, page_at, without, Within, IsBacked, IsHeldWithin, IsSoundMapping, IsSoundTvm, alter, dropped, blocked_standing, fenced_standing, left_standing, own_mappings, restand, restood, shared_mappings, overwritten, remembered, reworded, State, harts_inside, Backing, OwnPage, HostPage, Standing, Present, Blocked, Mapping, Tvm}
 use Rattle.cove_model.proofs.Lists.{all_filter, all_map, all_weaker}
 use Rattle.cove_model.proofs.SoundPages.{IsSteady, backed_steady, within_both}
-use Rattle.cove_model.specs.Keyed.{alter, dropped}
-use Rattle.cove_model.specs.Mappings.{blocked_standing, fenced_standing, left_standing, own_mappings, restand, restood, shared_mappings}
-use Rattle.cove_model.specs.GuestCalls.{overwritten, remembered, reworded}
 use Rattle.std.specs.List.{range_with_len}
 use Rattle.std.proofs.lemmas.List.{length-map}
 use Rattle.std.proofs.lemmas.List.FromFn.{length-range_with_len}
-use Rattle.cove_model.specs.States.{State, harts_inside}
-use Rattle.cove_model.specs.Tvms.{Backing, OwnPage, HostPage, Standing, Present, Blocked, Mapping, Tvm}
 
 -- ---- the list of TVMs
 

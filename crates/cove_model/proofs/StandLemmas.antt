@@ -4,14 +4,9 @@ use Rattle.std.proofs.Math.Path.{fun_ext}
 use Rattle.std.proofs.lemmas.List.{length-map}
 use Rattle.std.proofs.lemmas.Bool.{cases_eq, false≢true}
 use Rattle.std.proofs.lemmas.Grind.{get_or-set_at}
-use Rattle.cove_base.specs.Places.{table_word, epoch_word, answered_word, tvm_word, hart_word, all_words}
-use Rattle.cove_base.specs.Stores.{stored, fills}
+use Rattle.cove_model.specs.Machine.{table_word, epoch_word, answered_word, tvm_word, hart_word, all_words, stored, fills, Owner, Host, Free, page_at, change, is_host, is_free, Seat, State, TVM_LIMIT, SeatStands, number_in, WordsStand, PageStands, is_table, epoch_in, answered_in, maps_of, harts_behind}
 use Rattle.cove_base.proofs.StoreLemmas.{length-stored, get_or-fills, get_or-fills_other}
-use Rattle.cove_model.specs.Owners.{Owner, Host, Free, page_at, change, is_host, is_free}
-use Rattle.cove_model.specs.States.{Seat, State}
 use Rattle.cove_model.specs.WordLaws.{Stand}
-use Rattle.cove_base.specs.declared.limits.TheConstants.{TVM_LIMIT}
-use Rattle.cove_model.specs.WordsStand.{SeatStands, number_in, WordsStand, PageStands, is_table, epoch_in, answered_in, maps_of, harts_behind}
 use Rattle.cove_model.proofs.Runs.{change_cases, change_inside, change_outside, length_change, page_map, run_cases}
 
 -- a page word stands for an owner, by equal numbers

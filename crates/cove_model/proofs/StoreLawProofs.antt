@@ -1,12 +1,6 @@
 -- A lawful store, place by place.
 use Rattle.std.proofs.Common.{◌≡◌, ◌≢◌, ℕ, ◌+◌, ◌*◌, ◌<◌, ◌≤◌, ◌⊎◌, List, get_or, inl, inr, arith, get_or-set_other}
-use Rattle.cove_base.specs.PageWords.{host, converting, given, IsHostWord}
-use Rattle.cove_base.specs.Places.{all_words, epoch_word, answered_word, hart_word, tvm_word}
-use Rattle.cove_base.specs.declared.limits.TheConstants.{ENTRY_LIMIT, TVM_LIMIT}
-use Rattle.cove_base.specs.declared.numbers.Role.{Role}
-use Rattle.cove_base.specs.declared.numbers.Role.TheVariants.{Data}
-use Rattle.cove_model.specs.WordsStand.{FreeStands, epoch_in, answered_in}
-use Rattle.cove_model.specs.LawfulStores.{IsLawful, Counts, Converts, Frees, Gives, TakesBack, Removes, ChangesTable, Answers, Begins, FencesTvm, Enters, Leaves}
+use Rattle.cove_model.specs.Machine.{host, converting, given, IsHostWord, all_words, epoch_word, answered_word, hart_word, tvm_word, ENTRY_LIMIT, TVM_LIMIT, Role, Data, FreeStands, epoch_in, answered_in, IsLawful, Counts, Converts, Frees, Gives, TakesBack, Removes, ChangesTable, Answers, Begins, FencesTvm, Enters, Leaves}
 use Rattle.cove_model.proofs.StandLemmas.{set_cases}
 use Rattle.cove_model.specs.StoreLaw.{IsUsableWord, StoresKeepUsable, StoresKeepHost, StoresKeepAnswers, StoresKeepFences}
 

@@ -3,8 +3,7 @@ use Rattle.std.proofs.Common.{Bool, List, Some, [], ap, arith, cond, eq-eqb, eqb
 use Rattle.std.proofs.lemmas.Bool.{cases_eq, or_left, or_right}
 use Rattle.std.proofs.lemmas.Option.{same_Some}
 use Rattle.std.specs.List.{AllByRecursion, range_with_len}
-use Rattle.cove_model.specs.Owners.{has}
-use Rattle.cove_model.specs.States.{harts_below}
+use Rattle.cove_model.specs.Machine.{has, harts_below}
 
 unfoldable pub sum_below : (ℕ → ℕ) → ℕ → ℕ
 sum_below f zero = 0

@@ -3,19 +3,14 @@ use Rattle.std.proofs.Common.{◌≡◌, ◌≢◌, ℕ, zero, suc, ◌+◌, ◌
 use Rattle.std.proofs.lemmas.List.{get_or-append_right}
 use Rattle.std.proofs.lemmas.Option.{none-some}
 use Rattle.cove_base.proofs.TableLemmas.{below-absent}
-use Rattle.cove_base.specs.HartValues.{HartRings, Way, no_rings}
-use Rattle.cove_base.specs.PageWords.{given, host, released}
-use Rattle.cove_base.specs.Places.{all_words, hart_word, table_word, tvm_word}
+use Rattle.cove_model.specs.Machine.{HartRings, Way, no_rings, given, host, released, all_words, hart_word, table_word, tvm_word, Root, Table, Data, AreOwned, HasEntered, IsBehindLeaf, IsInside, IsLawful, Counts, Converts, Frees, Gives, TakesBack, Removes, ChangesTable, Answers, Begins, FencesTvm, Enters, Leaves, IsLeft, IsTableOf, TableChange, Links, Maps, Blocks, Unblocks, Unmaps, Rewrites, number_in}
 use Rattle.cove_base.specs.TableWords.{blocked, private_leaf}
 use Rattle.cove_base.specs.Tables.{Slot, InRoot, InMiddle, InLast, IsLinkSlot, IsSlot, Names, below, entry_at, next_table, present}
-use Rattle.cove_base.specs.declared.numbers.Role.TheVariants.{Root, Table, Data}
 use Rattle.cove_model.proofs.LeafWords.{blocked_none, given_number, none_named, present_blocked, present_next, present_none, present_same}
 use Rattle.cove_model.proofs.Lists.{replicate_zero}
 use Rattle.cove_model.proofs.OwnedStores.{one_owner}
-use Rattle.cove_model.specs.LawfulStores.{AreOwned, HasEntered, IsBehindLeaf, IsInside, IsLawful, Counts, Converts, Frees, Gives, TakesBack, Removes, ChangesTable, Answers, Begins, FencesTvm, Enters, Leaves, IsLeft, IsTableOf, TableChange, Links, Maps, Blocks, Unblocks, Unmaps, Rewrites}
 use Rattle.cove_model.specs.TableExamples.{entered_words, fetching, guest, rooted}
 use Rattle.cove_model.specs.TableLaw.{EntersWithin, IsGuestLive, MayReach}
-use Rattle.cove_model.specs.WordsStand.{number_in}
 
 -- ---- the words
 

@@ -3,10 +3,7 @@ use Rattle.std.proofs.Common.{◌≡◌, ℕ, zero, suc, ◌+◌, ◌^◌, ◌<�
 use Rattle.std.proofs.lemmas.Bool.{cases_lt, lt-ltb, le-ltb}
 use Rattle.std.proofs.lemmas.List.Sums.{length-filter}
 use Rattle.std.specs.List.{filter, range_with_len}
-use Rattle.cove_model.specs.States.{State, shared_pages}
-use Rattle.cove_base.specs.PageWords.{host, IsFreeWord, IsPageWord, OfHost, OfConverting, OfGiven, OfReleased}
-use Rattle.cove_model.specs.Owners.{Owner, Host, Converting, Free, Given, has, is_host, page_at}
-use Rattle.cove_model.specs.WordsStand.{FreeStands, OwnersStand, PageStands, role_of, epoch_in, answered_in, maps_of}
+use Rattle.cove_model.specs.Machine.{State, shared_pages, host, IsFreeWord, IsPageWord, OfHost, OfConverting, OfGiven, OfReleased, Owner, Host, Converting, Free, Given, has, is_host, page_at, FreeStands, OwnersStand, PageStands, role_of, epoch_in, answered_in, maps_of}
 use Rattle.cove_model.specs.WordLaws.{WordsTellHost, WordsTellShared, WordsTellFree, WordsTellAnswered, WordsTellLowest, WordsAreWords}
 use Rattle.cove_model.proofs.StandLemmas.{host_page, free_page}
 

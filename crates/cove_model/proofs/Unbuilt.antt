@@ -1,21 +1,8 @@
 -- While run is not built, every hart is outside.
 use Rattle.std.proofs.Common.{◌≡◌, ℕ, List, Option, Some, None, refl, sym, ap, subst, ◌∙◌}
-use Rattle.cove_base.specs.Scripts.{ScriptValue}
-use Rattle.cove_base.specs.HartLines.{next_line}
-use Rattle.cove_base.specs.declared.calls.HostCall.{HostCall}
-use Rattle.cove_base.specs.declared.calls.HostCall.TheVariants.{Run}
-use Rattle.cove_base.specs.declared.events.Entry.{Entry}
-use Rattle.cove_base.specs.declared.events.Event.{Event}
+use Rattle.cove_model.specs.Machine.{ScriptValue, next_line, HostCall, Run, Entry, Event, Reply, effect, refusal, state_after, state_by, after, kicked_offer, offer, outside_offer, unkicked_offer, has, Seat, State, ended_by, after_event, done, done_at, end_line, host_done, line_ended, Tlb, emptied_by, forgets_at, forgets_outside, host_touched, renewed, touched, touched_at, with_touched}
 use Rattle.cove_base.specs.declared.events.Event.TheVariants as events
-use Rattle.cove_base.specs.declared.statuses.Reply.{Reply}
 use Rattle.cove_model.proofs.AtTheEnd.{after_push, from_end}
-use Rattle.cove_model.specs.Answers.{effect, refusal, state_after, state_by}
-use Rattle.cove_model.specs.Histories.{after}
-use Rattle.cove_model.specs.Offers.{kicked_offer, offer, outside_offer, unkicked_offer}
-use Rattle.cove_model.specs.Owners.{has}
-use Rattle.cove_model.specs.States.{Seat, State, ended_by}
-use Rattle.cove_model.specs.Steps.{after_event, done, done_at, end_line, host_done, line_ended}
-use Rattle.cove_model.specs.Translations.{Tlb, emptied_by, forgets_at, forgets_outside, host_touched, renewed, touched, touched_at, with_touched}
 
 pub record AreOutside (S : State) : Type 0 where
   pub outside : (h : ℕ) → S.seats h ≡ None

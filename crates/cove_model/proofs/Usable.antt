@@ -5,23 +5,14 @@ use Rattle.std.specs.Option.{option_map_or}
 use Rattle.std.proofs.lemmas.Bool.{and_parts}
 use Rattle.std.proofs.lemmas.Option.{none-some}
 use Rattle.cove_base.specs.Registers.{register}
-use Rattle.cove_base.specs.declared.statuses.Status.TheVariants.{Success}
+use Rattle.cove_model.specs.Machine.{Success, ScriptValue, GuestAct, HostCall, Event, Hit, Walk, Reply, Target, may_use, page_at, word_stored, page_of, word_place, Seat, State, tvm_at, refusal, refusal_by, reply_to, state_by, guest_rule, Forgets, Keeps, ForgetsGuests, ForgetsAll, rule, is_own, mapping_of, may_follow, page_under, cpu_of, is_mapped_for, may_succeed, seat_mapping, IsSound, IsUsable, LeadsTo, Allows, acted, after_event, done, done_at, end_line, guest_done, host_done, line_ended, Came, Failed, Tlb, Touched, emptied_by, filled, forgets_at, forgets_by, forgets_inside, forgets_outside, pair_of, renewed, touched, where_accepted, with_target, with_touched, Mapping}
 use Rattle.cove_base.specs.Rings.{ring_room}
-use Rattle.cove_base.specs.Scripts.{ScriptValue}
 use Rattle.cove_base.specs.Statuses.{is_success}
-use Rattle.cove_base.specs.declared.calls.GuestAct.{GuestAct}
 use Rattle.cove_base.specs.declared.calls.GuestAct.TheVariants as acts
-use Rattle.cove_base.specs.declared.calls.HostCall.{HostCall}
-use Rattle.cove_base.specs.declared.events.Event.{Event}
 use Rattle.cove_base.specs.declared.events.Event.TheVariants as events
-use Rattle.cove_base.specs.declared.events.How.TheVariants.{Hit, Walk}
 use Rattle.cove_base.specs.declared.numbers.Gpn.{Gpn}
-use Rattle.cove_base.specs.declared.statuses.Reply.{Reply}
-use Rattle.cove_base.specs.declared.walks.Target.{Target}
 use Rattle.cove_base.specs.declared.walks.Target.TheVariants as target
 use Rattle.cove_model.proofs.Runs.{change_cases}
-use Rattle.cove_model.specs.Owners.{may_use, page_at, word_stored}
-use Rattle.cove_model.specs.States.{page_of, word_place, Seat, State, tvm_at}
 use Rattle.cove_model.proofs.Answering.{guest_answer, host_answer}
 use Rattle.cove_model.proofs.EventMoves.{moves, seat_other}
 use Rattle.cove_model.proofs.GuestChanges.{IsCalm, act_rule, blocks, change_guest, seats_after}
@@ -31,15 +22,6 @@ use Rattle.cove_model.proofs.KeepingCalls.{keeps_done, keeps_tvms}
 use Rattle.cove_model.proofs.Lists.{all_append, all_weaker}
 use Rattle.cove_model.proofs.Moves.{outcome_state}
 use Rattle.cove_model.proofs.UsingPages.{Spares, use_call, use_move, use_stored, use_wrote}
-use Rattle.cove_model.specs.Answers.{refusal, refusal_by, reply_to, state_by}
-use Rattle.cove_model.specs.GuestCalls.{guest_rule}
-use Rattle.cove_model.specs.HostCalls.{Forgets, Keeps, ForgetsGuests, ForgetsAll, rule}
-use Rattle.cove_model.specs.Mappings.{is_own, mapping_of, may_follow, page_under}
-use Rattle.cove_model.specs.Offers.{cpu_of, is_mapped_for, may_succeed, seat_mapping}
-use Rattle.cove_model.specs.Sound.{IsSound, IsUsable, LeadsTo}
-use Rattle.cove_model.specs.Steps.{Allows, acted, after_event, done, done_at, end_line, guest_done, host_done, line_ended}
-use Rattle.cove_model.specs.Translations.{Came, Failed, Tlb, Touched, emptied_by, filled, forgets_at, forgets_by, forgets_inside, forgets_outside, pair_of, renewed, touched, where_accepted, with_target, with_touched}
-use Rattle.cove_model.specs.Tvms.{Mapping}
 
 -- ---- lists of translations
 

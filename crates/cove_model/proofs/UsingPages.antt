@@ -1,18 +1,12 @@
 -- A hart's use of a page outlives the events of others, and those of its own that empty no host pages.
 use Rattle.std.proofs.Common.{◌≡◌, ℕ, ◌+◌, ◌/◌, ◌<◌, true, List, [], ◌∷◌, Option, Some, None, refl, sym, ap, ◌∙◌, ⊎_elim}
-use Rattle.cove_base.specs.declared.calls.HostCall.{HostCall}
-use Rattle.cove_base.specs.declared.calls.HostCall.TheVariants.{Convert, GlobalFence, LocalFence, Reclaim, Create, Tables, Measured, Vcpu, Zero, Remove, Destroy}
+use Rattle.cove_model.specs.Machine.{HostCall, Convert, GlobalFence, LocalFence, Reclaim, Create, Tables, Measured, Zero, Remove, Destroy, Converting, Free, Given, Host, Owner, Purpose, AsRoot, AsState, AsTable, AsVcpu, AsData, TheHost, fence_answered, change, converted, fenced, has, holder, is_host, may_use, page_at, reclaimed, settled, word_stored, without, harts_below, State, is_among, Forgets, Keeps, ForgetsGuests, ForgetsAll, rule, freed, given_to, removed, IsSoundPage}
+use Rattle.cove_base.specs.declared.calls.HostCall.TheVariants.{Vcpu}
 use Rattle.cove_model.proofs.Members.{false-true, has_below, has_without}
 use Rattle.cove_model.proofs.Runs.{change_cases, page_map}
-use Rattle.cove_model.specs.Owners.{Converting, Free, Given, Host, Owner, Purpose, AsRoot, AsState, AsTable, AsVcpu, AsData, TheHost, fence_answered, change, converted, fenced, has, holder, is_host, may_use, page_at, reclaimed, settled, word_stored, without}
-use Rattle.cove_model.specs.States.{harts_below, State}
 use Rattle.cove_model.proofs.GuestChanges.{Left, Put, Wrote}
 use Rattle.cove_model.proofs.Moves.{Converts, Fences, Gives, Move, Reclaims, Responds, Returns, Same, Stores, outcome_state}
 use Rattle.cove_model.proofs.PageRuns.{each_cases}
-use Rattle.cove_model.specs.GuestPages.{is_among}
-use Rattle.cove_model.specs.HostCalls.{Forgets, Keeps, ForgetsGuests, ForgetsAll, rule}
-use Rattle.cove_model.specs.Pages.{freed, given_to, removed}
-use Rattle.cove_model.specs.Sound.{IsSoundPage}
 
 use_settled : (h : ℕ) (held waiting words : List ℕ) → has h held ≡ true → has h waiting ≡ true → may_use h (settled held waiting words) ≡ true
 use_settled h held [] words e w = false-true w

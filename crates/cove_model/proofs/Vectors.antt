@@ -1,17 +1,11 @@
 -- Histories that are computed from the definitions alone.
-use Rattle.cove_base.specs.declared.events.Entry.{Entry}
-use Rattle.cove_base.specs.declared.events.How.TheVariants.{Hit, Walk}
-use Rattle.cove_base.specs.declared.calls.HostCall.TheVariants.{LocalFence}
-use Rattle.cove_base.specs.declared.statuses.Status.TheVariants.{Success}
+use Rattle.cove_model.specs.Machine.{Entry, Hit, Walk, LocalFence, Success, IsCached, IsQuiet, Legal, after, own, TheHost, TheMonitor, is_found, opening, word_at}
 use Rattle.cove_model.proofs.Loads.{load_told}
-use Rattle.cove_model.specs.Cached.{IsCached, IsQuiet}
 use Rattle.cove_model.specs.Examples.{and_back, board, during_a_fence, during_a_fence_history, early_walk, early_walk_history, ended_hits, ended_hits_history, faulted, fence, held_before, held_before_history, last_answer, last_answer_history, late, late_history, load, loaded, local_fence, long_fill, once_free, said, short_fill, stale, stale_history, there_and_back, there_and_back_history, to_the_monitor, two_harts}
-use Rattle.cove_model.specs.Histories.{Legal, after, own}
-use Rattle.cove_model.specs.Owners.{TheHost, TheMonitor, zeros}
-use Rattle.cove_model.specs.Offers.{is_found}
+use Rattle.cove_model.specs.Owners.{zeros}
 use Rattle.cove_base.specs.declared.walks.Target.TheVariants.{Host}
 use Rattle.cove_model.specs.Played.{played}
-use Rattle.cove_model.specs.States.{opening, opening_words, word_at}
+use Rattle.cove_model.specs.States.{opening_words}
 use Rattle.std.proofs.Common.{List, [], ap, arith, drop, refl, slice_index, sym, take, true, true≢false, ℕ, ◌++◌, ◌∙◌, ◌∷◌, ◌≡◌, ◌≢◌}
 
 -- ---- the opening memory

@@ -1,22 +1,16 @@
 -- A walk's load keeps the rule of its hart.
 use Rattle.std.proofs.Common.{◌≡◌, ℕ, ◌<◌, Bool, true, false, cond, IsSome, List, Some, None, get_or, refl, sym, ◌∙◌, ap, subst, inl, ⊎_elim}
 use Rattle.cove_base.proofs.HostWalkLemmas.{says_so}
-use Rattle.cove_base.specs.HartValues.{HartRings, Holding, rings_with}
+use Rattle.cove_model.specs.Machine.{HartRings, Holding, rings_with, IsHostWord, ScriptValue, Entry, Page, has, Tlb, filled, tlb}
 use Rattle.cove_base.specs.HostWalks.{says_host}
-use Rattle.cove_base.specs.PageWords.{IsHostWord}
 use Rattle.cove_base.specs.Rings.{found, ring_with}
-use Rattle.cove_base.specs.Scripts.{ScriptValue}
-use Rattle.cove_base.specs.declared.events.Entry.{Entry}
 use Rattle.cove_base.specs.declared.events.Walked.TheVariants.{Found, Missing}
-use Rattle.cove_base.specs.declared.numbers.Page.{Page}
 use Rattle.cove_base.specs.declared.walks.Target.TheVariants.{Host}
 use Rattle.cove_model.proofs.Fitting.{ring_filled, ring_finds_page, ring_names}
 use Rattle.cove_model.proofs.Members.{has_filled}
 use Rattle.cove_model.specs.BoardRule.{IsLive, WalksKeepRule, walked_holding}
 use Rattle.cove_model.specs.Fits.{ring_of, rings_of, walked_rings}
-use Rattle.cove_model.specs.Owners.{has}
 use Rattle.cove_model.specs.StoreLaw.{MayUse}
-use Rattle.cove_model.specs.Translations.{Tlb, filled, tlb}
 
 abbrev page_number : ℕ → Page
 page_number k = record { 0 = k }

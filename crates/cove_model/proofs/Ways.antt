@@ -3,9 +3,7 @@ use Rattle.std.proofs.Common.{◌≡◌, ℕ, ◌+◌, ◌<◌, ◌≤◌, Bool,
 use Rattle.std.proofs.lemmas.Bool.{ne_eqb}
 use Rattle.std.specs.List.{AllByRecursion, range_with_len}
 use Rattle.cove_base.proofs.ScriptLimits.{Limits}
-use Rattle.cove_base.specs.HartValues.{Way}
-use Rattle.cove_base.specs.Scripts.{ScriptValue}
-use Rattle.cove_base.specs.declared.events.Entry.{Entry}
+use Rattle.cove_model.specs.Machine.{Way, ScriptValue, Entry, Legal, after, Owner, Host, Converting, Free, Given, Purpose, AsRoot, AsState, AsTable, AsVcpu, AsData, fence_answered, converted, fenced, has, page_at, reclaimed, settled, without, word_stored, is_root_of, root_of, Seat, State, harts_below, harts_inside, done, Tvm}
 use Rattle.cove_model.proofs.AtTheEnd.{after_push, line_pages}
 use Rattle.cove_model.proofs.EventMoves.{moves}
 use Rattle.cove_model.proofs.Frames.{framed_done}
@@ -17,12 +15,6 @@ use Rattle.cove_model.proofs.Moves.{Move, Same, Converts, Reclaims, Stores, Fenc
 use Rattle.cove_model.proofs.Ordering.{after_numbered}
 use Rattle.cove_model.proofs.Running.{seat_apart, seated}
 use Rattle.cove_model.specs.Fits.{WayFits}
-use Rattle.cove_model.specs.Histories.{Legal, after}
-use Rattle.cove_model.specs.Owners.{Owner, Host, Converting, Free, Given, Purpose, AsRoot, AsState, AsTable, AsVcpu, AsData, fence_answered, converted, fenced, has, page_at, reclaimed, settled, without, word_stored}
-use Rattle.cove_model.specs.Pages.{is_root_of, root_of}
-use Rattle.cove_model.specs.States.{Seat, State, harts_below, harts_inside}
-use Rattle.cove_model.specs.Steps.{done}
-use Rattle.cove_model.specs.Tvms.{Tvm}
 
 -- ---- roots
 

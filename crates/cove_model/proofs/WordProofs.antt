@@ -2,11 +2,7 @@
 use Rattle.std.proofs.Common.{◌≡◌, ◌≢◌, ℕ, ◌+◌, ◌/◌, ◌<◌, List, length, get_or, set, refl, sym, ◌∙◌, ap, inl, inr, arith, length-set, get_or-set_same, get_or-set_other}
 use Rattle.std.proofs.lemmas.Bool.{cases_eq}
 use Rattle.std.proofs.lemmas.Grind.{get_or-set_at}
-use Rattle.cove_base.specs.PageWords.{host, converting}
-use Rattle.cove_base.specs.Places.{epoch_word, answered_word, all_words}
-use Rattle.cove_model.specs.Owners.{without, page_at, converted, fenced, fence_answered, reclaimed}
-use Rattle.cove_model.specs.States.{harts_below}
-use Rattle.cove_model.specs.WordsStand.{epoch_in, answered_in, maps_of}
+use Rattle.cove_model.specs.Machine.{host, converting, epoch_word, answered_word, all_words, without, page_at, converted, fenced, fence_answered, reclaimed, harts_below, epoch_in, answered_in, maps_of}
 use Rattle.cove_model.specs.WordLaws.{ConvertWordsStand, GlobalFenceWordsStand, LocalFenceWordsStand, ReclaimWordsStand}
 use Rattle.cove_model.proofs.Runs.{every_at}
 use Rattle.cove_model.proofs.HartLists.{others_behind, without-behind}

@@ -1,13 +1,9 @@
 -- What is known of a hart and the monitor as their passes are joined.
 use Rattle.std.proofs.Common.{◌≡◌, ℕ, ◌≤◌, true, false, IsTrue, Some, List, [], ◌∷◌, ◌++◌, eqb, length, length-append, refl, sym, ◌∙◌, ap, subst, arith}
 use Rattle.std.proofs.lemmas.List.Elements.{filter-append}
-use Rattle.cove_base.specs.HartValues.{HartValue}
+use Rattle.cove_model.specs.Machine.{HartValue, ScriptValue, is_within_limits, Entry, ENTRY_LIMIT, count_word, Legal, own, AllowsLawful, IsLawful}
 use Rattle.atomic_table.specs.Seated.{TableId}
-use Rattle.cove_base.specs.Scripts.{ScriptValue, is_within_limits}
-use Rattle.cove_base.specs.declared.events.Entry.{Entry}
-use Rattle.cove_base.specs.declared.limits.TheConstants.{ENTRY_LIMIT}
 use Rattle.cove_board.specs.Parts.{HartPart, MonitorPart, Part, both, hart_of, holding_of, loaded_part, monitor_of}
-use Rattle.cove_base.specs.Places.{count_word}
 use Rattle.cove_board.specs.Passes.{AllowsEntries, AllowsLawfulStores, BoardValue, PassValue, guard_by}
 use Rattle.cove_board.specs.Ruled.{IsMonitor, IsPart, Lives}
 use Rattle.cove_core.specs.Kept.{IsKept}
@@ -16,9 +12,7 @@ use Rattle.cove_model.proofs.AloneProofs.{others_leave_alone, ruled_harts_fit}
 use Rattle.cove_model.specs.BoardRule.{IsLive, IsMonitored, UnusedLives}
 use Rattle.cove_model.specs.Fits.{Fits}
 use Rattle.cove_model.specs.FitsAlone.{FitsAlone}
-use Rattle.cove_model.specs.Histories.{Legal, own}
 use Rattle.cove_model.specs.LawfulCounts.{CountsEntries, IsCountable}
-use Rattle.cove_model.specs.LawfulStores.{AllowsLawful, IsLawful}
 use Rattle.cove_monitor.specs.Seats.{IsKeeper, IsSeat}
 
 none_more : (xs ys : List Entry) → xs ≡ xs ++ ys → ys ≡ []

@@ -4,13 +4,9 @@ use Rattle.std.proofs.lemmas.Bool.{cases_lt, false≢true}
 use Rattle.std.specs.Option.{unwrap_or}
 use Rattle.atomic_table.specs.Seated.{TableId}
 use Rattle.cove_base.specs.Guards.{Guard, guard_after}
-use Rattle.cove_base.specs.HartValues.{HartRings, HartValue, no_rings}
-use Rattle.cove_base.specs.Scripts.{ScriptValue}
+use Rattle.cove_model.specs.Machine.{HartRings, HartValue, no_rings, ScriptValue, Entry, Event, ENTRY_LIMIT, after, own, host_touched, tlb, touched_at}
 use Rattle.cove_base.specs.Unchanged.{Unchanged}
-use Rattle.cove_base.specs.declared.events.Entry.{Entry}
-use Rattle.cove_base.specs.declared.events.Event.{Event}
 use Rattle.cove_base.specs.declared.events.Event.TheVariants.{LoadFault, StoreFault}
-use Rattle.cove_base.specs.declared.limits.TheConstants.{ENTRY_LIMIT}
 use Rattle.cove_board.specs.Parts.{HartPart, hart_alone, hart_of, left_part, monitor_alone, monitor_of}
 use Rattle.cove_board.specs.Passes.{IsHeld, PassValue, guard_of, place_code}
 use Rattle.cove_core.specs.Kept.{IsKept}
@@ -25,8 +21,6 @@ use Rattle.cove_model.proofs.AloneProofs.{fits_fit_alone}
 use Rattle.cove_model.proofs.AtTheEnd.{own_same}
 use Rattle.cove_model.specs.Fits.{Fits, rings_of, walked_rings}
 use Rattle.cove_model.specs.FitsAlone.{FitsAlone}
-use Rattle.cove_model.specs.Histories.{after, own}
-use Rattle.cove_model.specs.Translations.{host_touched, tlb, touched_at}
 use Rattle.cove_monitor.proofs.Joining.{AreJoined}
 use Rattle.cove_monitor.specs.Events.{HasLooked, HasMadeEntry, HasStepped, NamesNone}
 use Rattle.cove_monitor.specs.Seats.{IsKeeper, IsSeat, no_table}

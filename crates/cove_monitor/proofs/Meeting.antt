@@ -1,8 +1,7 @@
 -- What meeting a hart tells as the monitor ends.
 use Rattle.std.proofs.Common.{◌≡◌, ℕ, sym, ◌∙◌, ap, subst}
 use Rattle.atomic_table.specs.Seated.{TableId}
-use Rattle.cove_base.specs.HartValues.{HartValue}
-use Rattle.cove_base.specs.Scripts.{ScriptValue}
+use Rattle.cove_model.specs.Machine.{HartValue, ScriptValue}
 use Rattle.cove_base.proofs.ScriptLimits.{limits_of}
 use Rattle.cove_board.specs.Parts.{HartPart, hart_of, loaded_part, both, monitor_alone, monitor_of}
 use Rattle.cove_board.specs.Passes.{BoardValue, PassValue}

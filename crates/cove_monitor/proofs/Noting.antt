@@ -1,16 +1,13 @@
 -- A walk that a hart notes, and that its pass knows.
 use Rattle.std.proofs.Common.{◌≡◌, ℕ, ◌<◌, IsTrue, None, refl, sym, ◌∙◌, ap, subst}
-use Rattle.cove_base.specs.HartValues.{HartValue, after_walk, rings_after, rings_find}
+use Rattle.cove_model.specs.Machine.{HartValue, after_walk, rings_after, rings_find, ScriptValue, is_within_limits, Page, Target}
 use Rattle.cove_base.specs.HostWalks.{walked_to}
-use Rattle.cove_base.specs.Scripts.{ScriptValue, is_within_limits}
 use Rattle.cove_base.specs.declared.events.Walked.{Walked}
-use Rattle.cove_base.specs.declared.numbers.Page.{Page}
 use Rattle.cove_base.specs.declared.walks.Target.TheVariants.{Host}
 use Rattle.cove_board.specs.Parts.{hart_alone, hart_of, walked_part}
 use Rattle.cove_board.specs.Passes.{BoardValue, IsHartPass, PassValue}
 use Rattle.cove_core.proofs.Walking.{needed_walks_leave_alone, wanted}
 use Rattle.cove_hart.specs.Needs.{next_need}
-use Rattle.cove_base.specs.declared.walks.Target.{Target}
 use Rattle.cove_hart.specs.declared.needs.Need.{Need}
 use Rattle.cove_hart.specs.declared.needs.Need.TheVariants.{Walk}
 use Rattle.cove_model.specs.FitsAlone.{FitsAlone}

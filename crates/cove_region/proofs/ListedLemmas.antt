@@ -4,8 +4,7 @@ use Rattle.std.specs.List.{list_all, list_any, AllByRecursion, IsDistinct, range
 use Rattle.std.proofs.lemmas.Bool.{and_from, and_parts, both_ways, cases_lt, eq-eqb, eqb-true, false_from_ne_true, or_cases, or_left, or_parts, or_right}
 use Rattle.std.proofs.lemmas.List.Folds.{list_any-append}
 use Rattle.std.proofs.lemmas.Map.Views.{any-filter_same}
-use Rattle.cove_model.specs.GuestPages.{row_count}
-use Rattle.cove_model.specs.Orderly.{AreDistinct}
+use Rattle.cove_model.specs.Machine.{row_count, AreDistinct}
 use Rattle.cove_model.specs.Owners as owners
 use Rattle.cove_region.specs.GuestMaps.{FormRows, has_guest, pages_from}
 use Rattle.cove_region.proofs.AreaLemmas.{has_from, has_means}

@@ -5,9 +5,8 @@ use Rattle.std.specs.Prelude.{if◌then◌else◌}
 use Rattle.std.proofs.lemmas.Bool.{and_from, and_parts, both_ways, cases_Bool, false_from_ne_true, not-true, or_cases, or_left, or_right}
 use Rattle.std.proofs.lemmas.Bool.Decides.{nat_tests}
 use Rattle.std.proofs.lemmas.List.{map-append}
-use Rattle.cove_base.specs.declared.limits.TheConstants.{SHARED_RUN_LIMIT}
+use Rattle.cove_model.specs.Machine.{SHARED_RUN_LIMIT, AreDistinct}
 use Rattle.cove_model.specs.GuestPages as model
-use Rattle.cove_model.specs.Orderly.{AreDistinct}
 use Rattle.cove_model.specs.Owners as owners
 use Rattle.cove_model.specs.Tvms.{Area as ModelArea, Tvm}
 use Rattle.cove_region.specs.declared.areas.Area.{Area}

@@ -3,14 +3,7 @@ use Rattle.std.proofs.Common.{◌≡◌, ℕ, zero, suc, ◌<◌, ◌≤◌, Lis
 use Rattle.std.proofs.lemmas.List.{take-append-le}
 use Rattle.std.proofs.lemmas.Option.{slice_get_within}
 use Rattle.atomic_table.specs.Seated.{TableId}
-use Rattle.cove_base.specs.HartLines.{next_line}
-use Rattle.cove_base.specs.Scripts.{ScriptValue}
-use Rattle.cove_base.specs.declared.events.Entry.{Entry}
-use Rattle.cove_base.specs.declared.limits.TheConstants.{ENTRY_LIMIT}
-use Rattle.cove_base.specs.declared.scripts.ScriptLine.{ScriptLine}
-use Rattle.cove_model.specs.Histories.{after}
-use Rattle.cove_model.specs.Played.{IsOver}
-use Rattle.cove_model.specs.States.{ended_by}
+use Rattle.cove_model.specs.Machine.{next_line, ScriptValue, Entry, ENTRY_LIMIT, ScriptLine, after, IsOver, ended_by}
 use Rattle.cove_monitor.specs.Closing.{AreSeats, HasMet, HaveMet, IsNumber}
 use Rattle.cove_monitor.specs.Seats.{SeatValue, part_of}
 use Rattle.cove_run.specs.Working.{AreIdle, HasFull, IsIdle}

@@ -2,15 +2,9 @@
 use Rattle.std.proofs.Common.{◌≡◌, ℕ, ◌≤◌, List, [], ◌∷◌, ◌++◌, length, IsTrue, true, ⊎_elim, refl, zero, suc, arith}
 use Rattle.std.proofs.lemmas.Option.{none-some}
 use Rattle.cove_base.proofs.ScriptLimits.{limits_of}
-use Rattle.cove_base.specs.Scripts.{ScriptValue, is_within_limits}
-use Rattle.cove_base.specs.declared.events.Entry.{Entry}
-use Rattle.cove_base.specs.declared.events.Event.{Event}
+use Rattle.cove_model.specs.Machine.{ScriptValue, is_within_limits, Entry, Event, ENTRY_LIMIT, EachEntry, Legal, after, IsOver, Allows}
 use Rattle.cove_base.specs.declared.events.Event.TheVariants as events
-use Rattle.cove_base.specs.declared.limits.TheConstants.{ENTRY_LIMIT}
 use Rattle.cove_journal.specs.Lines.{is_writable}
-use Rattle.cove_model.specs.Histories.{EachEntry, Legal, after}
-use Rattle.cove_model.specs.Played.{IsOver}
-use Rattle.cove_model.specs.Steps.{Allows}
 use Rattle.cove_model.proofs.Beginning.{legal_begins, outside_due}
 use Rattle.cove_model.proofs.Histories.{legal_quiet}
 use Rattle.cove_model.proofs.Playing.{played_fits}

@@ -2,9 +2,7 @@
 use Rattle.std.proofs.Common.{◌≡◌, ℕ, ◌+◌, ◌<◌, List, length, get_or, Option, Some, None, IfSome, slice_get, refl, sym, subst, arith, below_more}
 use Rattle.std.specs.Option.{option_map}
 use Rattle.std.proofs.lemmas.Option.{IfSome_then, slice_get_read}
-use Rattle.cove_base.specs.HartLines.{next_line}
-use Rattle.cove_base.specs.Scripts.{ScriptValue}
-use Rattle.cove_base.specs.declared.scripts.ScriptLine.{ScriptLine}
+use Rattle.cove_model.specs.Machine.{next_line, ScriptValue, ScriptLine}
 use Rattle.cove_monitor.specs.Seats.{SeatValue}
 use Rattle.cove_run.specs.Working.{AreAfter, AreIdle, ComesFirst, IsIdle, next_phase}
 

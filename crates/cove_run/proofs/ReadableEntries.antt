@@ -3,18 +3,11 @@ use Rattle.std.proofs.Common.{◌≡◌, ℕ, true, List, [], ◌∷◌, ◌++�
 use Rattle.std.specs.List.{list_all}
 use Rattle.std.proofs.lemmas.Bool.{and_from, and_parts, lt-ltb}
 use Rattle.cove_base.proofs.ScriptLimits.{limits_of}
-use Rattle.cove_base.specs.Scripts.{ScriptValue, is_within_limits}
-use Rattle.cove_base.specs.declared.events.Entry.{Entry}
-use Rattle.cove_base.specs.declared.events.Event.{Event}
+use Rattle.cove_model.specs.Machine.{ScriptValue, is_within_limits, Entry, Event, HART_LIMIT, EachEntry, Legal, after, ended_by, Allows, asked, Line}
 use Rattle.cove_base.specs.declared.events.Event.TheVariants as events
-use Rattle.cove_base.specs.declared.limits.TheConstants.{HART_LIMIT}
 use Rattle.cove_base.specs.EventSizes.{are_sized, is_sized}
 use Rattle.cove_journal.specs.Forms.{is_event_shown}
 use Rattle.cove_journal.specs.Journals.{is_readable}
-use Rattle.cove_model.specs.Histories.{EachEntry, Legal, after}
-use Rattle.cove_model.specs.States.{ended_by}
-use Rattle.cove_model.specs.Steps.{Allows, asked}
-use Rattle.cove_base.specs.declared.scripts.Line.{Line}
 use Rattle.cove_model.proofs.Beginning.{Due, outside_due}
 use Rattle.cove_model.proofs.LineHarts.{line_on_board}
 use Rattle.cove_model.proofs.Unbuilt.{outside_after}

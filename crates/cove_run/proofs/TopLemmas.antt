@@ -1,10 +1,9 @@
 -- What was read of bytes that are told is what they spell.
 use Rattle.std.proofs.Common.{◌≡◌, ℕ, ◌+◌, ◌<◌, ◌++◌, List, length, length-append, Option, Some, None, Result, Ok, Err, refl, sym, subst, ap, ◌∙◌, arith, ⊎_elim, append-nil}
 use Rattle.std.proofs.lemmas.Bool.{lt-ltb}
-use Rattle.cove_base.specs.Scripts.{ScriptValue}
+use Rattle.cove_model.specs.Machine.{ScriptValue, SCRIPT_LIMIT}
 use Rattle.cove_base.specs.declared.faults.Kind.TheVariants.{TooLong}
 use Rattle.cove_base.specs.declared.faults.ScriptFault.{ScriptFault}
-use Rattle.cove_base.specs.declared.limits.TheConstants.{SCRIPT_LIMIT}
 use Rattle.cove_io.specs.Ends.{TakesAtMost, TakesExactly}
 use Rattle.cove_model.specs.Grammar.{script_of, fault_at}
 use Rattle.cove_run.specs.TopCall.{Reads, ReadsWhole}

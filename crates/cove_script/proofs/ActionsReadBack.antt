@@ -2,9 +2,7 @@
 use Rattle.std.proofs.Common.{◌≡◌, ℕ, zero, suc, ◌<◌, ◌^◌, true, false, List, [], ◌∷◌, map, codes, Option, Some, refl, ap, ◌∙◌, arith}
 use Rattle.std.proofs.lemmas.Bool.{and_from}
 use Rattle.std.specs.List.{list_all}
-use Rattle.cove_base.specs.declared.calls.HostCall.{HostCall}
-use Rattle.cove_base.specs.declared.calls.HostCall.TheVariants.{Convert}
-use Rattle.cove_base.specs.declared.scripts.Line.{Line}
+use Rattle.cove_model.specs.Machine.{HostCall, Convert, Line}
 use Rattle.cove_base.specs.declared.scripts.Line.TheVariants.{Call, Load, Store}
 use Rattle.cove_base.specs.CallWords.{word_of, arguments}
 use Rattle.cove_base.specs.Numbers.{number_text, natural_text}

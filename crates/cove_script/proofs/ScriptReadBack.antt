@@ -6,11 +6,8 @@ use Rattle.std.proofs.lemmas.Bool.{and_parts, and_from, leb-true, le-ltb, ltb-tr
 use Rattle.std.proofs.lemmas.List.{append-nil}
 use Rattle.std.proofs.lemmas.List.Elements.{recursion_from_All}
 use Rattle.cove_base.proofs.ScriptLimits.{IsWithin, Limits, Tests, all_weaker, limits_from_tests, tests_of}
-use Rattle.cove_base.specs.declared.limits.TheConstants.{KEY_LIMIT}
-use Rattle.cove_base.specs.declared.scripts.ScriptLine.{ScriptLine}
-use Rattle.cove_base.specs.declared.scripts.Fill.{Fill}
+use Rattle.cove_model.specs.Machine.{KEY_LIMIT, ScriptLine, Fill, ScriptValue, is_within_limits, is_fill, is_line_within, phases_rise_from}
 use Rattle.cove_base.specs.Numbers.{number_text, natural_text, hex_text}
-use Rattle.cove_base.specs.Scripts.{ScriptValue, is_within_limits, is_fill, is_line_within, phases_rise_from}
 use Rattle.cove_model.specs.Grammar.{Word, Reading, value, is_board, are_numbers, content_of, judged, words_read, script_of, opening_reading}
 use Rattle.cove_model.specs.ScriptText.{board_words, key_words, fill_words, phase_words, hart_words, body_words, turns_words, end_words, script_words, lines_text, script_text}
 use Rattle.cove_script.specs.MachineNumbers.{HasMachineNumbers, HasBytes, HasFittingNumbers}

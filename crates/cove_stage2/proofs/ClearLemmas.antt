@@ -1,7 +1,6 @@
 use Rattle.std.proofs.Common.{ℕ, ◌+◌, ◌*◌, ◌<◌, ◌≤◌, ◌⊎◌, List, length, arith, inl, inr}
 use Rattle.cove_base.proofs.StoreLemmas.{length-stored, get_or-fills, get_or-fills_other}
-use Rattle.cove_base.specs.Places.{table_word}
-use Rattle.cove_base.specs.Stores.{stored}
+use Rattle.cove_model.specs.Machine.{table_word, stored}
 use Rattle.cove_stage2.specs.Changes.{clear_stores, ClearsPage}
 
 -- what the stores of 0 to the table words of a page leave

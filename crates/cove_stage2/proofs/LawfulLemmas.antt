@@ -3,15 +3,10 @@ use Rattle.std.proofs.Common.{◌≡◌, ◌≢◌, ℕ, zero, suc, ◌+◌, ◌
 use Rattle.std.proofs.lemmas.List.{get_or-take, length-take-le}
 use Rattle.cove_base.proofs.StoreLemmas.{stored-append}
 use Rattle.cove_base.proofs.TreeLemmas.{entry-stands, link-slot, named-outside, root≢last, root≢middle, middle≢last, slot-cases}
-use Rattle.cove_base.specs.PageWords.{given}
-use Rattle.cove_base.specs.Places.{hart_word, table_word}
-use Rattle.cove_base.specs.Stores.{AllAllowed, Leads, fills, stored}
+use Rattle.cove_model.specs.Machine.{given, hart_word, table_word, AllAllowed, Leads, fills, stored, Table, IsBehindLeaf, IsLawful, ChangesTable, IsLeft, IsTableOf, TableChange, Links, Maps, Blocks, Unblocks, Unmaps, Rewrites, number_in}
 use Rattle.cove_base.specs.TableWords.{blocked}
 use Rattle.cove_base.specs.Tables.{Slot, InRoot, InMiddle, InLast, IsLeaf, IsPresent, IsLinkSlot, IsPool, IsSlot, IsTree, StandsAt, entry_at, leaf_at, next_table, present}
-use Rattle.cove_base.specs.declared.numbers.Role.TheVariants.{Table}
 use Rattle.cove_model.proofs.OwnedStores.{IsOwnPlace, one_root}
-use Rattle.cove_model.specs.LawfulStores.{IsBehindLeaf, IsLawful, ChangesTable, IsLeft, IsTableOf, TableChange, Links, Maps, Blocks, Unblocks, Unmaps, Rewrites}
-use Rattle.cove_model.specs.WordsStand.{number_in}
 use Rattle.cove_stage2.proofs.LeafLemmas.{blocked-some, leaf-changes, leaf-linked, leaf-stands, present-some, unblocked-blocked}
 use Rattle.cove_stage2.proofs.LinkLemmas.{enough-lower, enough-upper, links-none, links-some, pool-none}
 use Rattle.cove_stage2.specs.Changes.{KeepsLinks, LinksTable, clear_stores, leaf_stores, slot_place, unblocked}

@@ -5,8 +5,7 @@ use Rattle.std.proofs.lemmas.Bool.{cases_eq, eq-eqb, ne_eqb}
 use Rattle.std.proofs.lemmas.List.{get_or-take, get_or_default, length-take-le}
 use Rattle.cove_base.proofs.StoreLemmas.{length-stored, stored-append}
 use Rattle.cove_base.proofs.TreeLemmas.{entry-stands, link-slot, middle≢last, root≢last, root≢middle}
-use Rattle.cove_base.specs.Places.{all_words, table_word}
-use Rattle.cove_base.specs.Stores.{AllAllowed, stored}
+use Rattle.cove_model.specs.Machine.{all_words, table_word, AllAllowed, stored}
 use Rattle.cove_base.specs.Tables.{Slot, InRoot, InMiddle, InLast, IsPresent, IsLinkSlot, IsPool, IsTree, StandsAt, entry_at, leaf_at, next_table, present}
 use Rattle.cove_model.proofs.OwnedStores.{IsOwnPlace}
 use Rattle.cove_model.proofs.SharedLeaves.{stores_count_shared}

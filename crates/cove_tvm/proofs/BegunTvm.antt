@@ -4,16 +4,11 @@ use Rattle.std.proofs.lemmas.Bool.{false≢true}
 use Rattle.std.proofs.lemmas.Nat.Bits.{bit_at-zero}
 use Rattle.std.specs.Int.{bit_at}
 use Rattle.cove_base.proofs.TreeLemmas.{link-slot}
-use Rattle.cove_base.specs.PageWords.{given}
-use Rattle.cove_base.specs.Places.{table_word}
+use Rattle.cove_model.specs.Machine.{given, table_word, Role, Root, Table, Vcpu, Data, Seat, new_tvm, number_in}
 use Rattle.cove_base.specs.Tables.{Slot, InRoot, InMiddle, InLast, IsLinkSlot, IsSlot, entry_at, next_table}
-use Rattle.cove_base.specs.declared.numbers.Role.{Role}
-use Rattle.cove_base.specs.declared.numbers.Role.TheVariants.{Root, State, Table, Vcpu, Data}
+use Rattle.cove_base.specs.declared.numbers.Role.TheVariants.{State}
 use Rattle.cove_imsic.specs.FileTables.{FileTable}
 use Rattle.cove_model.proofs.ToldProofs.{filter_none}
-use Rattle.cove_model.specs.States.{Seat}
-use Rattle.cove_model.specs.Tvms.{new_tvm}
-use Rattle.cove_model.specs.WordsStand.{number_in}
 use Rattle.cove_region.specs.Standing.{StandFor}
 use Rattle.cove_region.specs.GuestMaps.{covers}
 use Rattle.cove_stage2.proofs.ZeroLemmas.{empty-entries, empty-tree}

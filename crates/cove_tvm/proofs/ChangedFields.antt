@@ -5,13 +5,9 @@ use Rattle.std.proofs.lemmas.Bool.{cases_eq}
 use Rattle.std.proofs.lemmas.List.Folds.{flat_map-map}
 use Rattle.std.specs.Prelude.{filter_map, flat_map, option_and_then, unwrap_or}
 use Rattle.cove_model.proofs.KeyedLemmas.{at_alter_other, at_alter_same}
-use Rattle.cove_model.specs.Keyed.{at}
-use Rattle.cove_model.specs.Mappings.{mapping_of, own_words}
-use Rattle.cove_model.specs.Owners.{page_at}
-use Rattle.cove_model.specs.States.{State, find_tvm, on_tvm, shown_page}
+use Rattle.cove_model.specs.Machine.{at, mapping_of, own_words, page_at, State, find_tvm, on_tvm, shown_page, FramesStand, maps_of, words_at}
 use Rattle.cove_model.specs.Tvms.{Tvm as ModelTvm, new_tvm}
 use Rattle.cove_model.specs.WordLaws.{Stand}
-use Rattle.cove_model.specs.WordsStand.{FramesStand, maps_of, words_at}
 use Rattle.cove_tvm.proofs.KeptGround.{frame_kept, stand_kept}
 use Rattle.cove_tvm.proofs.OneTvmProofs.{live_tvm_stands}
 use Rattle.cove_tvm.specs.Leaves.{LeavesTvm}

@@ -6,28 +6,15 @@ use Rattle.std.proofs.lemmas.List.Concat.{flat_map-append}
 use Rattle.std.proofs.lemmas.Option.{none-some}
 use Rattle.std.specs.Prelude.{filter_map, option_and_then, unwrap_or}
 use Rattle.cove_base.proofs.StoreLemmas.{get_or-fills, get_or-fills_other, length-stored, stored-append}
-use Rattle.cove_base.specs.PageWords.{given}
-use Rattle.cove_base.specs.Places.{all_words, hart_word, table_word}
-use Rattle.cove_base.specs.Stores.{fills, stored}
-use Rattle.cove_base.specs.declared.calls.HostCall.TheVariants.{Create}
-use Rattle.cove_base.specs.declared.limits.TheConstants.{ENTRY_LIMIT, TVM_LIMIT}
-use Rattle.cove_base.specs.declared.numbers.Role.{Role}
-use Rattle.cove_base.specs.declared.numbers.Role.TheVariants.{Root, State, Table, Vcpu, Data}
+use Rattle.cove_model.specs.Machine.{given, all_words, hart_word, table_word, fills, stored, Create, ENTRY_LIMIT, TVM_LIMIT, Role, Root, Table, Vcpu, Data, effect, at, mapping_of, own_words, IsOrderly, AsRoot, AsState, Converting, Free, Given, Host, Owner, Purpose, change, is_free, page_at, given_to, IsSeated, FencesWithin, FrameStands, FramesStand, PageStands, answered_in, epoch_in, is_table, maps_of, words_at}
+use Rattle.cove_base.specs.declared.numbers.Role.TheVariants.{State}
 use Rattle.cove_model.proofs.LeafWords.{given_number, given_role}
 use Rattle.cove_model.proofs.KeyedLemmas.{at_append}
 use Rattle.cove_model.proofs.Runs.{change_cases, change_outside, every_at, length_change, run_cases}
 use Rattle.cove_model.proofs.StandLemmas.{filled_stand, free_page}
-use Rattle.cove_model.specs.Answers.{effect}
-use Rattle.cove_model.specs.Keyed.{at}
-use Rattle.cove_model.specs.Mappings.{mapping_of, own_words}
-use Rattle.cove_model.specs.Orderly.{IsOrderly}
-use Rattle.cove_model.specs.Owners.{AsRoot, AsState, Converting, Free, Given, Host, Owner, Purpose, change, is_free, page_at}
-use Rattle.cove_model.specs.Pages.{given_to}
-use Rattle.cove_model.specs.Seated.{IsSeated}
 use Rattle.cove_model.specs.States.{State as MonitorState, find_tvm, shared_pages, shown_page}
 use Rattle.cove_model.specs.Tvms.{Tvm as ModelTvm, new_tvm}
 use Rattle.cove_model.specs.WordLaws.{Stand}
-use Rattle.cove_model.specs.WordsStand.{FencesWithin, FrameStands, FramesStand, PageStands, answered_in, epoch_in, is_table, maps_of, words_at}
 use Rattle.cove_tvm.proofs.BegunTvm.{HasBegun, IsPlaced, begun_lives}
 use Rattle.cove_tvm.proofs.GivenPages.{leaves_twice, none_entered, not_found, not_given, run_leaves}
 use Rattle.cove_tvm.proofs.KeptGround.{frame_kept, shared_kept, stand_kept}

@@ -2,14 +2,11 @@
 use Rattle.std.proofs.Common.{◌≡◌, ℕ, zero, suc, ◌<◌, ◌∙◌, ◌++◌, List, [], ◌∷◌, Option, Some, None, true, map, slice_index, option_map, replicate, refl, sym, ap, subst}
 use Rattle.std.proofs.lemmas.Option.{none-some, same_Some}
 use Rattle.cove_base.specs.Measurement.{FinalizeRecord}
-use Rattle.cove_base.specs.PageWords.{given}
-use Rattle.cove_base.specs.declared.numbers.Role.{Role}
-use Rattle.cove_base.specs.declared.numbers.Role.TheVariants.{Root, State, Table, Vcpu, Data}
+use Rattle.cove_model.specs.Machine.{given, Role, Root, Table, Vcpu, Data, started, Seat, find_cpu}
+use Rattle.cove_base.specs.declared.numbers.Role.TheVariants.{State}
 use Rattle.cove_base.specs.declared.registers.Regs.{Regs}
 use Rattle.cove_imsic.specs.FileTables.{FileTable}
 use Rattle.cove_model.proofs.KeyedLemmas.{at_key, at_map}
-use Rattle.cove_model.specs.HostCalls.{started}
-use Rattle.cove_model.specs.States.{Seat, find_cpu}
 use Rattle.cove_model.specs.Tvms.{Cpu, Tvm as ModelTvm}
 use Rattle.cove_tvm.proofs.BuiltRegions.{live_stands}
 use Rattle.cove_tvm.proofs.ChangedFields.{fields_change_stand}

@@ -1,22 +1,12 @@
 -- A run of free pages that is given to a TVM: its stores are lawful and keep that TVM, and words and ground stand where it does.
 use Rattle.std.proofs.Common.{◌≡◌, ◌≢◌, ℕ, suc, ◌+◌, ◌*◌, ◌/◌, ◌%◌, ◌^◌, ◌<◌, ◌≤◌, ◌∙◌, false, cond, eqb, ltb, List, [], get_or, length, refl, sym, ap, subst, inl, inr, arith}
 use Rattle.cove_base.proofs.StoreLemmas.{get_or-fills, get_or-fills_other, length-stored}
-use Rattle.cove_base.specs.PageWords.{given, role_number}
-use Rattle.cove_base.specs.Places.{hart_word, table_word, tvm_word}
-use Rattle.cove_base.specs.Stores.{AllAllowed, fills, stored}
-use Rattle.cove_base.specs.declared.limits.TheConstants.{TVM_LIMIT}
-use Rattle.cove_base.specs.declared.numbers.Role.{Role}
-use Rattle.cove_base.specs.declared.numbers.Role.TheVariants.{Root}
+use Rattle.cove_model.specs.Machine.{given, role_number, hart_word, table_word, tvm_word, AllAllowed, fills, stored, TVM_LIMIT, Role, Root, IsLawful, Converting, Free, Given, Host, Owner, Purpose, change, is_free, page_at, given_to, State, on_tvm, FrameStands, FramesStand, GivenStands, PageStands, answered_in, epoch_in, is_table, maps_of, role_of}
 use Rattle.cove_model.proofs.LeafWords.{given_number, given_role}
 use Rattle.cove_model.proofs.Runs.{change_cases, every_at, length_change, run_cases}
 use Rattle.cove_model.proofs.StandLemmas.{filled_stand, free_page}
-use Rattle.cove_model.specs.LawfulStores.{IsLawful}
-use Rattle.cove_model.specs.Owners.{Converting, Free, Given, Host, Owner, Purpose, change, is_free, page_at}
-use Rattle.cove_model.specs.Pages.{given_to}
-use Rattle.cove_model.specs.States.{State, on_tvm}
 use Rattle.cove_model.specs.Tvms.{Tvm as ModelTvm}
 use Rattle.cove_model.specs.WordLaws.{Stand}
-use Rattle.cove_model.specs.WordsStand.{FrameStands, FramesStand, GivenStands, PageStands, answered_in, epoch_in, is_table, maps_of, role_of}
 use Rattle.cove_tvm.proofs.ChangedFields.{frames_changed, maps_changed, words_stand_still}
 use Rattle.cove_tvm.proofs.GivenPages.{run_leaves}
 use Rattle.cove_tvm.proofs.GivesLawful.{gives_as}

@@ -3,22 +3,11 @@ use Rattle.std.proofs.Common.{◌≡◌, ◌≢◌, ℕ, ◌+◌, ◌*◌, ◌/�
 use Rattle.std.proofs.lemmas.Bool.{false≢true}
 use Rattle.std.proofs.lemmas.Option.{none-some}
 use Rattle.cove_base.proofs.StoreLemmas.{get_or-fills, get_or-fills_other, length-stored}
-use Rattle.cove_base.specs.PageWords.{given}
-use Rattle.cove_base.specs.Places.{hart_word, table_word, tvm_word}
-use Rattle.cove_base.specs.Stores.{fills, stored}
-use Rattle.cove_base.specs.declared.limits.TheConstants.{ENTRY_LIMIT, TVM_LIMIT}
-use Rattle.cove_base.specs.declared.numbers.Role.{Role}
-use Rattle.cove_base.specs.declared.numbers.Role.TheVariants.{Root, Table}
+use Rattle.cove_model.specs.Machine.{given, hart_word, table_word, tvm_word, fills, stored, ENTRY_LIMIT, TVM_LIMIT, Role, Root, Table, IsTableOf, IsOrderly, numbers_of, Converting, Free, Given, Host, Owner, Purpose, has, page_at, IsSeated, Seat, State, find_tvm, FencesWithin, PageStands, SeatStands, answered_in, epoch_in, maps_of, role_of}
 use Rattle.cove_model.proofs.Distinct.{none_has}
 use Rattle.cove_model.proofs.LeafWords.{given_host, given_number}
 use Rattle.cove_model.proofs.Runs.{run_cases}
-use Rattle.cove_model.specs.LawfulStores.{IsTableOf}
-use Rattle.cove_model.specs.Orderly.{IsOrderly, numbers_of}
-use Rattle.cove_model.specs.Owners.{Converting, Free, Given, Host, Owner, Purpose, has, page_at}
-use Rattle.cove_model.specs.Seated.{IsSeated}
-use Rattle.cove_model.specs.States.{Seat, State, find_tvm}
 use Rattle.cove_model.specs.Tvms.{Tvm as ModelTvm}
-use Rattle.cove_model.specs.WordsStand.{FencesWithin, PageStands, SeatStands, answered_in, epoch_in, maps_of, role_of}
 use Rattle.cove_tvm.proofs.LiveTvms.{none_past}
 use Rattle.cove_tvm.specs.Entered.{is_entered_below}
 use Rattle.cove_tvm.specs.Leaves.{LeavesTvm}

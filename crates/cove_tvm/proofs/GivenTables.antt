@@ -9,21 +9,13 @@ use Rattle.std.proofs.lemmas.Map.Made.{length-le_from_is_member}
 use Rattle.std.specs.Cmp.{nat_eq_equiv}
 use Rattle.std.specs.List.{Contains, IsDistinct, list_any, range_with_len}
 use Rattle.cove_base.proofs.StoreLemmas.{get_or-fills_other}
-use Rattle.cove_base.specs.PageWords.{given}
-use Rattle.cove_base.specs.Places.{table_word}
-use Rattle.cove_base.specs.Stores.{fills, stored}
+use Rattle.cove_model.specs.Machine.{given, table_word, fills, stored, Tables, Role, Root, Table, Vcpu, Data, page_run, rule, AsTable, Free, page_at, is_table}
 use Rattle.cove_base.specs.Tables.{IsOutside, IsPool, IsSpare}
-use Rattle.cove_base.specs.declared.calls.HostCall.TheVariants.{Tables}
-use Rattle.cove_base.specs.declared.numbers.Role.{Role}
-use Rattle.cove_base.specs.declared.numbers.Role.TheVariants.{Root, State, Table, Vcpu, Data}
+use Rattle.cove_base.specs.declared.numbers.Role.TheVariants.{State}
 use Rattle.cove_model.proofs.LeafWords.{given_role}
 use Rattle.cove_model.proofs.Runs.{run_cases}
-use Rattle.cove_model.specs.GuestPages.{page_run}
-use Rattle.cove_model.specs.HostCalls.{rule}
-use Rattle.cove_model.specs.Owners.{AsTable, Free, page_at}
 use Rattle.cove_model.specs.States.{State as MonitorState}
 use Rattle.cove_model.specs.Tvms.{Tvm as ModelTvm}
-use Rattle.cove_model.specs.WordsStand.{is_table}
 use Rattle.cove_tvm.proofs.BuiltRegions.{live_stands, live_stays}
 use Rattle.cove_tvm.proofs.FreeRuns.{free_word, page_free, run_behind, run_given, run_keeps, run_lawful, run_word}
 use Rattle.cove_tvm.proofs.KeptTables.{link_kept, tables_kept}

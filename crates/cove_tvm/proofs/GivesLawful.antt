@@ -2,19 +2,11 @@
 use Rattle.std.proofs.Common.{◌≡◌, ℕ, zero, suc, ◌+◌, ◌/◌, ◌<◌, ◌≤◌, ◌∙◌, ◌⊎◌, List, true, get_or, set, refl, sym, subst, inl, inr, arith, get_or-set_other}
 use Rattle.std.proofs.Math.Path.{fun_ext}
 use Rattle.cove_base.proofs.StoreLemmas.{get_or-fills_other}
-use Rattle.cove_base.specs.PageWords.{given}
-use Rattle.cove_base.specs.Places.{answered_word, hart_word}
-use Rattle.cove_base.specs.Stores.{AllAllowed, fills, stored}
-use Rattle.cove_base.specs.declared.limits.TheConstants.{ENTRY_LIMIT, TVM_LIMIT}
-use Rattle.cove_base.specs.declared.numbers.Role.{Role}
-use Rattle.cove_base.specs.declared.numbers.Role.TheVariants.{Root, State}
+use Rattle.cove_model.specs.Machine.{given, answered_word, hart_word, AllAllowed, fills, stored, ENTRY_LIMIT, TVM_LIMIT, Role, Root, Gives, IsFreeIn, IsLawful, IsLeft, every, is_free, page_at, IsSeated, FencesWithin, FreeStands, PageStands, answered_in, epoch_in, maps_of}
+use Rattle.cove_base.specs.declared.numbers.Role.TheVariants.{State}
 use Rattle.cove_model.proofs.Runs.{every_at}
 use Rattle.cove_model.proofs.StandLemmas.{free_page}
-use Rattle.cove_model.specs.LawfulStores.{Gives, IsFreeIn, IsLawful, IsLeft}
-use Rattle.cove_model.specs.Owners.{every, is_free, page_at}
-use Rattle.cove_model.specs.Seated.{IsSeated}
 use Rattle.cove_model.specs.States.{State as MonitorState}
-use Rattle.cove_model.specs.WordsStand.{FencesWithin, FreeStands, PageStands, answered_in, epoch_in, maps_of}
 use Rattle.cove_stage2.proofs.LawfulLemmas.{allowed-append}
 use Rattle.cove_tvm.proofs.GivenPages.{not_entered}
 use Rattle.cove_tvm.specs.NewTvms.{CreateIsLawful, MayCreate, create_stores}

@@ -8,18 +8,10 @@ use Rattle.std.specs.Prelude.{Contains, filter_map, flat_map}
 use Rattle.cove_base.proofs.TableLemmas.{below-absent}
 use Rattle.cove_base.proofs.TreeLemmas.{entry-stands, last-number, middle≢last, named-outside, root≢last}
 use Rattle.cove_base.proofs.TreeStores.{IsStoreAt, OnlyAt, leaf-store, tree-leaf}
-use Rattle.cove_base.specs.PageWords.{given}
-use Rattle.cove_base.specs.Places.{all_words, table_word}
+use Rattle.cove_model.specs.Machine.{given, all_words, table_word, Root, Table, at, dropped, IsTableOf, mapping_of, page_under, AreDistinct, guests_of, has, Seat, shown_page}
 use Rattle.cove_base.specs.Tables.{Slot, InRoot, InMiddle, InLast, IsAbsent, IsLink, NoTable, ATable, IsLinkSlot, IsTree, StandsAt, below, entry_at, leaf_at, next_table}
-use Rattle.cove_base.specs.declared.numbers.Role.TheVariants.{Root, Table}
 use Rattle.cove_imsic.specs.FileTables.{FileTable}
 use Rattle.cove_model.proofs.SharedLeaves.{stores_count_shared}
-use Rattle.cove_model.specs.Keyed.{at, dropped}
-use Rattle.cove_model.specs.LawfulStores.{IsTableOf}
-use Rattle.cove_model.specs.Mappings.{mapping_of, page_under}
-use Rattle.cove_model.specs.Orderly.{AreDistinct, guests_of}
-use Rattle.cove_model.specs.Owners.{has}
-use Rattle.cove_model.specs.States.{Seat, shown_page}
 use Rattle.cove_model.specs.TableLaw.{is_shared_leaf, shared_leaves, shared_once}
 use Rattle.cove_model.specs.Tvms.{Backing, HostPage, OwnPage, Mapping, Standing, Blocked, Present, Tvm as ModelTvm}
 use Rattle.cove_stage2.proofs.SharedWords.{is_shared, not_shared, once_is}

@@ -4,28 +4,15 @@ use Rattle.std.proofs.Math.Path.{fun_ext}
 use Rattle.std.proofs.lemmas.Bool.{cases_eq, eq-eqb, ne_eqb}
 use Rattle.std.proofs.lemmas.List.{length-map}
 use Rattle.std.specs.Prelude.{option_and_then, unwrap_or}
-use Rattle.cove_base.specs.PageWords.{converting, given, host, released}
-use Rattle.cove_base.specs.Places.{all_words, answered_word, epoch_word, hart_word, table_word, tvm_word}
-use Rattle.cove_base.specs.declared.calls.HostCall.TheVariants.{Destroy}
-use Rattle.cove_base.specs.declared.limits.TheConstants.{TVM_LIMIT}
-use Rattle.cove_base.specs.declared.numbers.Role.{Role}
-use Rattle.cove_base.specs.declared.numbers.Role.TheVariants.{Root, Table}
+use Rattle.cove_model.specs.Machine.{converting, given, host, released, all_words, answered_word, epoch_word, hart_word, table_word, tvm_word, Destroy, TVM_LIMIT, Role, Root, Table, rule, dropped, IsTableOf, mapping_of, own_words, IsOrderly, AsRoot, AsState, AsTable, AsVcpu, AsData, Converting, Free, Given, Host, Owner, Purpose, page_at, freed, FrameStands, FramesStand, PageStands, answered_in, epoch_in, harts_behind, is_table, maps_of, role_of, words_at}
 use Rattle.cove_model.proofs.KeyedLemmas.{at_dropped}
 use Rattle.cove_model.proofs.LeafWords.{given_host, given_number, role_small}
 use Rattle.cove_model.proofs.OwnedStores.{one_owner}
 use Rattle.cove_model.proofs.Runs.{page_map}
 use Rattle.cove_model.proofs.StandLemmas.{seat_moves}
-use Rattle.cove_model.specs.HostCalls.{rule}
-use Rattle.cove_model.specs.Keyed.{dropped}
-use Rattle.cove_model.specs.LawfulStores.{IsTableOf}
-use Rattle.cove_model.specs.Mappings.{mapping_of, own_words}
-use Rattle.cove_model.specs.Orderly.{IsOrderly}
-use Rattle.cove_model.specs.Owners.{AsRoot, AsState, AsTable, AsVcpu, AsData, Converting, Free, Given, Host, Owner, Purpose, page_at}
-use Rattle.cove_model.specs.Pages.{freed}
 use Rattle.cove_model.specs.States.{State as MonitorState, find_tvm}
 use Rattle.cove_model.specs.Tvms.{Tvm as ModelTvm, new_tvm}
 use Rattle.cove_model.specs.WordLaws.{Stand}
-use Rattle.cove_model.specs.WordsStand.{FrameStands, FramesStand, PageStands, answered_in, epoch_in, harts_behind, is_table, maps_of, role_of, words_at}
 use Rattle.cove_model.specs.TableLaw.{shared_leaves}
 use Rattle.cove_tvm.proofs.BuiltRegions.{live_stands}
 use Rattle.cove_tvm.proofs.GoneShares.{gone_maps, gone_shares, none_found}

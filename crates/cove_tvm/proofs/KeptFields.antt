@@ -1,15 +1,10 @@
 -- What a TVM has beside its tables stands still on new words that keep its pages, its number and its harts.
 use Rattle.std.proofs.Common.{◌≡◌, ℕ, ◌+◌, ◌<◌, ◌≤◌, ◌∙◌, List, get_or, Option, Some, None, sym, ap, subst}
 use Rattle.cove_base.specs.InterruptFiles.{InterruptFile}
-use Rattle.cove_base.specs.PageWords.{given}
-use Rattle.cove_base.specs.declared.numbers.Role.{Role}
-use Rattle.cove_base.specs.declared.numbers.Role.TheVariants.{Vcpu}
+use Rattle.cove_model.specs.Machine.{given, Role, Vcpu, Within, Seat, find_cpu, number_in}
 use Rattle.cove_imsic.specs.FileTables.{FileTable}
 use Rattle.cove_model.proofs.HartLists.{filter_harts}
-use Rattle.cove_model.specs.Sound.{Within}
-use Rattle.cove_model.specs.States.{Seat, find_cpu}
 use Rattle.cove_model.specs.Tvms.{Standing, Present, Blocked, Mapping, Binding, Cpu, Unbinding, NotBegun, Begun, Tvm as ModelTvm}
-use Rattle.cove_model.specs.WordsStand.{number_in}
 use Rattle.cove_tvm.specs.Entered.{entered_below, is_entered_below, WaitsSince}
 use Rattle.cove_tvm.specs.LeafStands.{LeafStands, StandingStands, leaf_of}
 use Rattle.cove_tvm.specs.Slots.{slot_at}

@@ -3,13 +3,8 @@ use Rattle.std.proofs.Common.{◌≡◌, ℕ, zero, suc, ◌+◌, ◌-◌, ◌*�
 use Rattle.std.proofs.lemmas.List.{get_or-drop, get_or-take, length-drop, length-take}
 use Rattle.std.proofs.lemmas.List.Sums.{sum_by-cons}
 use Rattle.std.proofs.lemmas.Option.{none-some, slice_get_within}
-use Rattle.cove_base.specs.Places.{epoch_word, hart_word, table_word, tvm_word}
-use Rattle.cove_base.specs.declared.limits.TheConstants.{TVM_LIMIT}
-use Rattle.cove_model.specs.Keyed.{at}
-use Rattle.cove_model.specs.Owners.{AsRoot, AsState, AsTable, AsVcpu, AsData, Converting, Free, Given, Host, Owner, has, page_at}
-use Rattle.cove_model.specs.States.{State, find_tvm}
+use Rattle.cove_model.specs.Machine.{epoch_word, hart_word, table_word, tvm_word, TVM_LIMIT, at, AsRoot, AsState, AsTable, AsVcpu, AsData, Converting, Free, Given, Host, Owner, has, page_at, State, find_tvm, FrameStands, PageStands, answered_in, epoch_in, maps_of, words_at}
 use Rattle.cove_model.specs.WordLaws.{Stand}
-use Rattle.cove_model.specs.WordsStand.{FrameStands, PageStands, answered_in, epoch_in, maps_of, words_at}
 use Rattle.cove_model.specs.TableLaw.{is_shared_leaf, shared_leaves}
 use Rattle.cove_model.specs.Tvms.{Tvm as ModelTvm}
 use Rattle.cove_tvm.proofs.KeptTvms.{left_tvms_stand}

@@ -2,12 +2,8 @@
 use Rattle.std.proofs.Common.{◌≡◌, ℕ, ◌+◌, ◌*◌, ◌/◌, ◌%◌, ◌^◌, ◌<◌, ◌≤◌, ◌∙◌, List, get_or, length, sym, ap, subst, arith, inl, inr}
 use Rattle.cove_base.proofs.TableLemmas.{below-absent, below-table}
 use Rattle.cove_base.proofs.TreeLemmas.{link-slot}
-use Rattle.cove_base.specs.PageWords.{given}
-use Rattle.cove_base.specs.Places.{table_word}
+use Rattle.cove_model.specs.Machine.{given, table_word, Role, Root, Table, IsRoot}
 use Rattle.cove_base.specs.Tables.{Slot, InRoot, InMiddle, InLast, IsLeaf, IsLink, NoTable, ATable, IsLinkSlot, IsSlot, IsSpare, IsTree, below, entry_at, leaf_at, next_table}
-use Rattle.cove_base.specs.declared.numbers.Role.{Role}
-use Rattle.cove_base.specs.declared.numbers.Role.TheVariants.{Root, Table}
-use Rattle.cove_model.specs.LawfulStores.{IsRoot}
 use Rattle.cove_tvm.specs.KeptOwn.{KeepsTvm}
 use Rattle.cove_tvm.specs.TvmStands.{AreTables}
 

@@ -1,12 +1,9 @@
 -- A TVM stands still on new words that keep it.
 use Rattle.std.proofs.Common.{◌≡◌, ℕ, ◌<◌, ◌∙◌, ◌==◌, false, not, List, get_or, Option, Some, None, sym, ap, subst, inl, inr}
-use Rattle.cove_base.specs.PageWords.{given}
+use Rattle.cove_model.specs.Machine.{given, Role, Root, Table, Vcpu, Data, mapping_of, Seat}
 use Rattle.cove_base.specs.Tables.{Names, leaf_at}
-use Rattle.cove_base.specs.declared.numbers.Role.{Role}
-use Rattle.cove_base.specs.declared.numbers.Role.TheVariants.{Root, State, Table, Vcpu, Data}
+use Rattle.cove_base.specs.declared.numbers.Role.TheVariants.{State}
 use Rattle.cove_imsic.specs.FileTables.{FileTable}
-use Rattle.cove_model.specs.Mappings.{mapping_of}
-use Rattle.cove_model.specs.States.{Seat}
 use Rattle.cove_model.specs.Tvms.{Tvm as ModelTvm}
 use Rattle.cove_tvm.proofs.KeptFields.{KeepsFields, fields_stay, leaf_stands}
 use Rattle.cove_tvm.proofs.KeptTables.{leaf_kept, link_kept, tables_kept}

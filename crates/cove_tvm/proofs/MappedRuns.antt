@@ -1,10 +1,8 @@
 -- A run of guest pages is mapped, one after another.
 use Rattle.std.proofs.Common.{◌≡◌, ◌≢◌, ℕ, suc, ◌+◌, ◌-◌, ◌*◌, ◌/◌, ◌^◌, ◌<◌, ◌≤◌, ◌∙◌, Bool, true, false, List, [], get_or, length, add-one, refl, sym, ap, subst, inl, inr, arith}
 use Rattle.std.proofs.lemmas.Bool.{cases_eq}
-use Rattle.cove_base.specs.Places.{all_words, table_word}
-use Rattle.cove_base.specs.Stores.{AllAllowed, stored}
+use Rattle.cove_model.specs.Machine.{all_words, table_word, AllAllowed, stored, IsBehindLeaf, IsLawful, IsTableOf, MakesLawful}
 use Rattle.cove_base.specs.Tables.{Slot, InRoot, InMiddle, IsLinkSlot, entry_at, leaf_at, present}
-use Rattle.cove_model.specs.LawfulStores.{IsBehindLeaf, IsLawful, IsTableOf, MakesLawful}
 use Rattle.cove_stage2.proofs.LackedLemmas.{tables_lacked-first}
 use Rattle.cove_stage2.proofs.LawfulLemmas.{map_is_lawful, map_keeps_given}
 use Rattle.cove_stage2.proofs.MapPlaces.{MapLeaves, map_leaves}

@@ -3,13 +3,10 @@ use Rattle.std.proofs.Common.{◌≡◌, ℕ, zero, suc, ◌+◌, ◌*◌, ◌�
 use Rattle.std.proofs.lemmas.List.Sums.{sum_by-cons}
 use Rattle.std.proofs.lemmas.Nat.Bits.{bit_at-zero}
 use Rattle.std.specs.Int.{bit_at}
-use Rattle.cove_base.specs.Places.{all_words}
-use Rattle.cove_base.specs.Scripts.{ScriptValue}
+use Rattle.cove_model.specs.Machine.{all_words, ScriptValue, opening, FramesStand}
 use Rattle.cove_model.proofs.OpeningStandsProofs.{opening_stands}
-use Rattle.cove_model.specs.States.{opening}
 use Rattle.cove_model.specs.TableLaw.{is_shared_leaf}
 use Rattle.cove_model.specs.WordLaws.{Stand}
-use Rattle.cove_model.specs.WordsStand.{FramesStand}
 use Rattle.cove_tvm.specs.GroundLaws.{IsNewGround, OpeningStands}
 use Rattle.cove_tvm.specs.TvmStands.{TvmStands}
 use Rattle.cove_tvm.specs.TvmTables.{live_at}

@@ -4,17 +4,11 @@ use Rattle.std.proofs.lemmas.Bool.{cases_eq, eq-eqb}
 use Rattle.std.proofs.lemmas.Option.{none-some, same_Some}
 use Rattle.cove_base.proofs.StoreLemmas.{get_or-fills_other}
 use Rattle.cove_base.specs.InterruptFiles.{empty_file}
-use Rattle.cove_base.specs.PageWords.{given}
-use Rattle.cove_base.specs.Stores.{fills, stored}
+use Rattle.cove_model.specs.Machine.{given, fills, stored, Role, Root, Table, Vcpu, Data, rule, at, AsVcpu, IsSeated}
 use Rattle.cove_base.specs.declared.calls.HostCall.TheVariants.{Vcpu as VcpuCall}
-use Rattle.cove_base.specs.declared.numbers.Role.{Role}
-use Rattle.cove_base.specs.declared.numbers.Role.TheVariants.{Root, State, Table, Vcpu, Data}
+use Rattle.cove_base.specs.declared.numbers.Role.TheVariants.{State}
 use Rattle.cove_model.proofs.LeafWords.{given_role}
 use Rattle.cove_model.proofs.Runs.{run_cases}
-use Rattle.cove_model.specs.HostCalls.{rule}
-use Rattle.cove_model.specs.Keyed.{at}
-use Rattle.cove_model.specs.Owners.{AsVcpu}
-use Rattle.cove_model.specs.Seated.{IsSeated}
 use Rattle.cove_model.specs.States.{State as MonitorState, find_cpu, new_cpu}
 use Rattle.cove_model.specs.Tvms.{Cpu, Tvm as ModelTvm}
 use Rattle.cove_tvm.proofs.BuiltRegions.{live_stands, live_stays}

@@ -1,15 +1,11 @@
 -- Words and ground stand after a call on one TVM.
 use Rattle.std.proofs.Common.{◌≡◌, ◌≢◌, ℕ, suc, ◌<◌, ◌≤◌, ◌∙◌, false, cond, List, length-set, option_map, Option, Some, None, refl, sym, ap, subst, inl, inr, arith}
 use Rattle.std.proofs.lemmas.Bool.{cases_eq}
-use Rattle.cove_base.specs.declared.limits.TheConstants.{TVM_LIMIT}
+use Rattle.cove_model.specs.Machine.{TVM_LIMIT, alter, Owner, State, find_tvm, on_tvm, FramesStand, maps_of}
 use Rattle.cove_model.proofs.KeyedLemmas.{at_alter_other, at_alter_same}
-use Rattle.cove_model.specs.Keyed.{alter}
-use Rattle.cove_model.specs.Owners.{Owner}
-use Rattle.cove_model.specs.States.{State, find_tvm, on_tvm}
 use Rattle.cove_model.specs.TableLaw.{shared_leaves}
 use Rattle.cove_model.specs.Tvms.{Tvm as ModelTvm}
 use Rattle.cove_model.specs.WordLaws.{Stand}
-use Rattle.cove_model.specs.WordsStand.{FramesStand, maps_of}
 use Rattle.cove_tvm.proofs.KeptGround.{live_made}
 use Rattle.cove_tvm.proofs.KeptTvms.{left_tvms_stand}
 use Rattle.cove_tvm.proofs.LiveTvms.{written_elsewhere, written_here}

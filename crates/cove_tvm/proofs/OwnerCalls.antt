@@ -1,20 +1,13 @@
 -- Words and ground stand still after each call on owners.
 use Rattle.std.proofs.Common.{◌≡◌, ◌≢◌, ℕ, ◌+◌, ◌*◌, ◌/◌, ◌<◌, ◌≤◌, ◌∙◌, List, get_or, length, set, true, refl, sym, subst, arith, inl, inr, get_or-set_other}
 use Rattle.cove_base.proofs.StoreLemmas.{get_or-fills, get_or-fills_other, length-stored}
-use Rattle.cove_base.specs.PageWords.{converting, given, host}
-use Rattle.cove_base.specs.Places.{all_words, answered_word, epoch_word}
-use Rattle.cove_base.specs.Stores.{fills, stored}
-use Rattle.cove_base.specs.declared.calls.HostCall.TheVariants.{Convert, GlobalFence, LocalFence, Reclaim}
-use Rattle.cove_base.specs.declared.numbers.Role.{Role}
+use Rattle.cove_model.specs.Machine.{converting, given, host, all_words, answered_word, epoch_word, fills, stored, Convert, GlobalFence, LocalFence, Reclaim, Role, effect, Owner, is_free, is_host, page_at, FreeStands, PageStands, answered_in, epoch_in, maps_of}
 use Rattle.cove_model.proofs.FrameProofs.{convert_keeps_frames, global_fence_keeps_frames, local_fence_keeps_frames, reclaim_zeroes_frames}
 use Rattle.cove_model.proofs.LeafWords.{given_host}
 use Rattle.cove_model.proofs.Runs.{every_at, run_cases}
 use Rattle.cove_model.proofs.StandLemmas.{free_page, host_page}
 use Rattle.cove_model.proofs.WordProofs.{convert_stands, global_fence_stands, local_fence_stands, reclaim_stands}
-use Rattle.cove_model.specs.Answers.{effect}
-use Rattle.cove_model.specs.Owners.{Owner, is_free, is_host, page_at}
 use Rattle.cove_model.specs.WordLaws.{convert_stores, global_fence_stores, local_fence_stores, reclaim_stores, zeroed}
-use Rattle.cove_model.specs.WordsStand.{FreeStands, PageStands, answered_in, epoch_in, maps_of}
 use Rattle.cove_tvm.proofs.KeptGround.{owners_change_stands}
 use Rattle.cove_tvm.specs.GroundLaws.{ConvertStands, GlobalFenceStands, LocalFenceStands, ReclaimStands}
 use Rattle.cove_tvm.specs.Leaves.{LeavesEveryTvm}

@@ -8,20 +8,14 @@ use Rattle.std.proofs.lemmas.List.FromFn.{get_or-map-range_with_len, length-map-
 use Rattle.std.specs.Prelude.{flat_map}
 use Rattle.cove_base.proofs.StoreLemmas.{get_or-fills_other, length-stored}
 use Rattle.cove_base.specs.Measurement.{Record, registers_of}
-use Rattle.cove_base.specs.PageWords.{given}
-use Rattle.cove_base.specs.declared.numbers.Role.{Role}
-use Rattle.cove_base.specs.declared.numbers.Role.TheVariants.{Root, State, Table, Vcpu, Data}
+use Rattle.cove_model.specs.Machine.{given, Role, Root, Table, Vcpu, Data, page_records, page_words_from, own_mappings, with_mappings, AsData, Given, Owner, every, is_host, page_at, words_of, zeros, change_each, given_to, FrameStands, PageStands, answered_in, epoch_in, is_table, maps_of}
+use Rattle.cove_base.specs.declared.numbers.Role.TheVariants.{State}
 use Rattle.cove_model.proofs.LeafWords.{given_role}
 use Rattle.cove_model.proofs.PageRuns.{each_inside, length_change_each}
 use Rattle.cove_model.proofs.Runs.{every_at, run_cases}
 use Rattle.cove_model.proofs.StandLemmas.{host_page}
-use Rattle.cove_model.specs.HostCalls.{page_records, page_words_from}
-use Rattle.cove_model.specs.Mappings.{own_mappings, with_mappings}
-use Rattle.cove_model.specs.Owners.{AsData, Given, Owner, every, is_host, page_at, words_of, zeros}
-use Rattle.cove_model.specs.Pages.{change_each, given_to}
 use Rattle.cove_model.specs.States.{State as MonitorState, on_tvm, shown_page}
 use Rattle.cove_model.specs.Tvms.{Mapping, OwnPage, Tvm as ModelTvm}
-use Rattle.cove_model.specs.WordsStand.{FrameStands, PageStands, answered_in, epoch_in, is_table, maps_of}
 use Rattle.cove_stage2.specs.MapStores.{Pages}
 use Rattle.cove_tvm.proofs.FreeRuns.{page_free, run_keeps, run_lawful, run_leaves_others, run_word}
 use Rattle.cove_tvm.proofs.RunMappings.{NamesRun, own_run}

@@ -3,20 +3,13 @@ use Rattle.std.proofs.Common.{◌≡◌, ◌≢◌, ℕ, ◌+◌, ◌-◌, ◌*�
 use Rattle.std.proofs.lemmas.Bool.{ne_eqb, false≢true}
 use Rattle.cove_base.proofs.TreeLemmas.{middle-number, root-number, root≢middle}
 use Rattle.cove_base.specs.Measurement.{Record, registers_of}
-use Rattle.cove_base.specs.PageWords.{given}
-use Rattle.cove_base.specs.Places.{hart_word, tvm_word}
+use Rattle.cove_model.specs.Machine.{given, hart_word, tvm_word, Role, Root, Table, Vcpu, Data, new_ones, new_seconds, new_thirds, page_run, second_of, third_of, mapping_of, with_mappings, has, Seat, TVM_LIMIT}
 use Rattle.cove_base.specs.Tables.{Slot, InRoot, InMiddle, InLast, IsLinkSlot, Names, ByPresent, entry_at, leaf_at, present}
-use Rattle.cove_base.specs.declared.numbers.Role.{Role}
-use Rattle.cove_base.specs.declared.numbers.Role.TheVariants.{Root, State, Table, Vcpu, Data}
+use Rattle.cove_base.specs.declared.numbers.Role.TheVariants.{State}
 use Rattle.cove_imsic.specs.FileTables.{FileTable}
 use Rattle.cove_model.proofs.LeafWords.{none_named}
 use Rattle.cove_model.proofs.Runs.{run_cases}
-use Rattle.cove_model.specs.GuestPages.{new_ones, new_seconds, new_thirds, page_run, second_of, third_of}
-use Rattle.cove_model.specs.Mappings.{mapping_of, with_mappings}
-use Rattle.cove_model.specs.Owners.{has}
-use Rattle.cove_model.specs.States.{Seat}
 use Rattle.cove_model.specs.Tvms.{Backing, Mapping, Present, Tvm as ModelTvm}
-use Rattle.cove_base.specs.declared.limits.TheConstants.{TVM_LIMIT}
 use Rattle.cove_stage2.proofs.RestLemmas.{next-some}
 use Rattle.cove_stage2.specs.Lacked.{tables_lacked}
 use Rattle.cove_stage2.specs.MapStores.{Pages}

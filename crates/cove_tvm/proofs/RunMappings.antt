@@ -4,9 +4,7 @@ use Rattle.std.proofs.lemmas.Bool.{ne_eqb}
 use Rattle.std.proofs.lemmas.List.Folds.{find-append}
 use Rattle.std.specs.Option.{option_or}
 use Rattle.cove_base.specs.Tables.{present}
-use Rattle.cove_model.specs.Keyed.{at}
-use Rattle.cove_model.specs.Mappings.{own_mappings, page_under, shared_mappings}
-use Rattle.cove_model.specs.Tvms.{Backing, HostPage, OwnPage, Mapping, Present}
+use Rattle.cove_model.specs.Machine.{at, own_mappings, page_under, shared_mappings, Backing, HostPage, OwnPage, Mapping, Present}
 use Rattle.cove_tvm.specs.LeafStands.{leaf_of}
 
 -- new mappings of n guest pages from g on, present, each to the page behind it

@@ -1,12 +1,8 @@
 -- Pages outside of a run of pages that change, and pages that are a TVM's tables.
 use Rattle.std.proofs.Common.{◌≡◌, ℕ, zero, suc, ◌+◌, ◌<◌, ◌≤◌, ◌⊎◌, ◌∙◌, true, List, [], ◌∷◌, ◌++◌, drop, map, take, refl, sym, ap, subst, inl, inr, arith}
 use Rattle.std.specs.List.{enumerate_from}
-use Rattle.cove_base.specs.PageWords.{given, role_number}
-use Rattle.cove_base.specs.declared.numbers.Role.TheVariants.{Root, Table}
+use Rattle.cove_model.specs.Machine.{given, role_number, Root, Table, AsRoot, AsState, AsTable, AsVcpu, AsData, Given, Owner, Purpose, page_at, change_each, PageStands, is_table, role_of}
 use Rattle.cove_model.proofs.LeafWords.{given_role}
-use Rattle.cove_model.specs.Owners.{AsRoot, AsState, AsTable, AsVcpu, AsData, Given, Owner, Purpose, page_at}
-use Rattle.cove_model.specs.Pages.{change_each}
-use Rattle.cove_model.specs.WordsStand.{PageStands, is_table, role_of}
 use Rattle.cove_tvm.proofs.GivenPages.{given_owner}
 
 front : (how : ℕ → Owner → Owner) (k n : ℕ) (pages : List Owner) → List Owner

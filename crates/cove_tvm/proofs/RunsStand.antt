@@ -6,24 +6,16 @@ use Rattle.std.proofs.lemmas.Option.{none-some}
 use Rattle.std.specs.List.{range_with_len}
 use Rattle.std.specs.Prelude.{option_and_then, unwrap_or}
 use Rattle.cove_base.specs.Measurement.{Record, registers_of}
-use Rattle.cove_base.specs.PageWords.{given}
-use Rattle.cove_base.specs.Places.{answered_word, epoch_word, hart_word, table_word, tvm_word}
+use Rattle.cove_model.specs.Machine.{given, answered_word, epoch_word, hart_word, table_word, tvm_word, TVM_LIMIT, Role, Root, Table, Data, IsBehindLeaf, IsTableOf, mapping_of, own_words, with_mappings, AsRoot, AsState, AsTable, AsVcpu, AsData, Converting, Free, Given, Host, Owner, page_at, FrameStands, FramesStand, PageStands, answered_in, epoch_in, harts_behind, is_table, maps_of, words_at}
 use Rattle.cove_base.specs.Tables.{leaf_at}
-use Rattle.cove_base.specs.declared.limits.TheConstants.{TVM_LIMIT}
-use Rattle.cove_base.specs.declared.numbers.Role.{Role}
-use Rattle.cove_base.specs.declared.numbers.Role.TheVariants.{Root, Table, Data}
 use Rattle.cove_model.proofs.Distinct.{none_any}
 use Rattle.cove_model.proofs.KeyedLemmas.{at_alter_other, at_alter_same, at_append}
 use Rattle.cove_model.proofs.LeafWords.{given_number}
 use Rattle.cove_model.proofs.Runs.{every_at, run_cases}
 use Rattle.cove_model.proofs.StandLemmas.{page_moves, seat_moves}
-use Rattle.cove_model.specs.LawfulStores.{IsBehindLeaf, IsTableOf}
-use Rattle.cove_model.specs.Mappings.{mapping_of, own_words, with_mappings}
-use Rattle.cove_model.specs.Owners.{AsRoot, AsState, AsTable, AsVcpu, AsData, Converting, Free, Given, Host, Owner, page_at}
 use Rattle.cove_model.specs.States.{State as MonitorState, find_tvm, on_tvm}
 use Rattle.cove_model.specs.Tvms.{Backing, Mapping, Tvm as ModelTvm, new_tvm}
 use Rattle.cove_model.specs.WordLaws.{Stand}
-use Rattle.cove_model.specs.WordsStand.{FrameStands, FramesStand, PageStands, answered_in, epoch_in, harts_behind, is_table, maps_of, words_at}
 use Rattle.cove_stage2.specs.Lacked.{tables_lacked}
 use Rattle.cove_stage2.specs.MapStores.{Pages}
 use Rattle.cove_tvm.proofs.BuiltRegions.{live_stands, live_stays}

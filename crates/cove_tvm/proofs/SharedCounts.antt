@@ -4,11 +4,7 @@ use Rattle.std.proofs.lemmas.Bool.{cases_eq, cases_lt, ne_eqb, false≢true}
 use Rattle.std.proofs.lemmas.List.Sums.{sum_by-append, sum_by-cons}
 use Rattle.std.proofs.lemmas.Option.{none-some}
 use Rattle.std.specs.Prelude.{flat_map}
-use Rattle.cove_model.specs.Keyed.{alter, at}
-use Rattle.cove_model.specs.Mappings.{shared_mappings}
-use Rattle.cove_model.specs.Orderly.{AreDistinct}
-use Rattle.cove_model.specs.Owners.{has}
-use Rattle.cove_model.specs.States.{shown_page}
+use Rattle.cove_model.specs.Machine.{alter, at, shared_mappings, AreDistinct, has, shown_page}
 use Rattle.cove_model.specs.Tvms.{Mapping, Tvm as ModelTvm}
 use Rattle.cove_stage2.proofs.MapPlaces.{private_unshared, shared_other, shared_same}
 use Rattle.cove_tvm.specs.MappedRuns.{shown}

@@ -2,16 +2,11 @@
 use Rattle.std.proofs.Common.{◌≡◌, ℕ, suc, ◌+◌, ◌/◌, ◌<◌, ◌≤◌, ◌==◌, ◌∙◌, true, cond, List, [], get_or, refl, sym, ap, subst, inl, arith}
 use Rattle.std.proofs.lemmas.List.Sums.{sum_by-append}
 use Rattle.std.proofs.lemmas.List.Elements.{filter_map-append}
-use Rattle.cove_base.specs.PageWords.{host}
-use Rattle.cove_base.specs.declared.limits.TheConstants.{TVM_LIMIT}
+use Rattle.cove_model.specs.Machine.{host, TVM_LIMIT, shared_mappings, with_mappings, IsOrderly, Host, page_at, PageStands, answered_in, epoch_in, is_table, maps_of}
 use Rattle.cove_model.proofs.LeafWords.{given_host}
 use Rattle.cove_model.proofs.StandLemmas.{host_page}
-use Rattle.cove_model.specs.Mappings.{shared_mappings, with_mappings}
-use Rattle.cove_model.specs.Orderly.{IsOrderly}
-use Rattle.cove_model.specs.Owners.{Host, page_at}
 use Rattle.cove_model.specs.States.{State as MonitorState, on_tvm, shown_page}
 use Rattle.cove_model.specs.Tvms.{HostPage, Mapping, Tvm as ModelTvm}
-use Rattle.cove_model.specs.WordsStand.{PageStands, answered_in, epoch_in, is_table, maps_of}
 use Rattle.cove_tvm.proofs.GivenPages.{others_leave}
 use Rattle.cove_tvm.proofs.KeptTvms.{keeps_left}
 use Rattle.cove_tvm.proofs.RunMappings.{NamesRun, shared_run}

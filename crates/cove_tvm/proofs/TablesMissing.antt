@@ -4,8 +4,7 @@ use Rattle.std.proofs.lemmas.Bool.{cases_eq, eq-eqb, ne_eqb, or_left}
 use Rattle.std.specs.List.{range_with_len}
 use Rattle.cove_base.specs.Executions.{flag}
 use Rattle.cove_base.specs.Tables.{InMiddle, InRoot, entry_at}
-use Rattle.cove_model.specs.GuestPages.{new_ones, new_seconds, new_thirds, second_of, third_of}
-use Rattle.cove_model.specs.Owners.{has}
+use Rattle.cove_model.specs.Machine.{new_ones, new_seconds, new_thirds, second_of, third_of, has}
 use Rattle.cove_model.specs.Tvms.{Tvm as ModelTvm}
 use Rattle.cove_stage2.proofs.LackedCounts.{count_among, tables_lacked-told}
 use Rattle.cove_stage2.specs.Lacked.{blocks_touched, tables_lacked}

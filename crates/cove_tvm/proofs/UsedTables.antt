@@ -3,8 +3,7 @@ use Rattle.std.proofs.Common.{◌≡◌, ◌≢◌, ℕ, zero, suc, ◌+◌, ◌
 use Rattle.std.proofs.lemmas.Bool.{false≢true, or_cases, or_left, or_right}
 use Rattle.std.proofs.lemmas.List.Folds.{list_any-append}
 use Rattle.std.specs.List.{range_with_len}
-use Rattle.cove_model.specs.GuestPages.{new_ones}
-use Rattle.cove_model.specs.Owners.{has}
+use Rattle.cove_model.specs.Machine.{new_ones, has}
 
 -- ---- numbers that are new
 

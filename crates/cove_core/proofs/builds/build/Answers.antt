@@ -1,7 +1,6 @@
 use Rattle.std.proofs.Common.{replicate, ap, ◌∙◌, arith}
 use Rattle.cove_base.proofs.ScriptLimits.{limits_of}
-use Rattle.cove_base.specs.Places.{all_words}
-use Rattle.cove_base.specs.Scripts.{ScriptValue}
+use Rattle.cove_model.specs.Machine.{all_words, ScriptValue}
 use Rattle.cove_core.proofs.Building.{built_fresh}
 use Rattle.cove_core.proofs.builds.build.Goals as goal
 

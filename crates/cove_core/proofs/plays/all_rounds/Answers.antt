@@ -1,9 +1,7 @@
 use Rattle.std.proofs.Common.{◌≡◌, ◌+◌, ap, subst, ◌∙◌, arith}
-use Rattle.cove_base.specs.Scripts.{ScriptValue}
-use Rattle.cove_base.specs.declared.limits.TheConstants.{ENTRY_LIMIT}
+use Rattle.cove_model.specs.Machine.{ScriptValue, ENTRY_LIMIT, enough, rounds}
 use Rattle.cove_core.specs.Plays.{GoesOn}
 use Rattle.cove_core.proofs.Rounds.{AreMade, never_so_many, none_made, one_more_made, still_goes, still_rounds}
-use Rattle.cove_model.specs.Played.{enough, rounds}
 use Rattle.cove_core.proofs.plays.all_rounds.Goals as goal
 
 pub loop-init : goal.loop-init

@@ -1,9 +1,7 @@
 use Rattle.std.proofs.Common.{◌≡◌, ◌+◌, ◌<◌, fold, take, ◌++◌, ◌∷◌, [], get_or, length, subst, ap, ◌∙◌, arith}
 use Rattle.cove_base.proofs.ScriptLimits.{limits_of}
-use Rattle.cove_base.specs.declared.limits.TheConstants.{ENTRY_LIMIT}
-use Rattle.cove_base.specs.Scripts.{ScriptValue}
+use Rattle.cove_model.specs.Machine.{ENTRY_LIMIT, ScriptValue, turn}
 use Rattle.cove_core.specs.Plays.{GoesOn}
-use Rattle.cove_model.specs.Played.{turn}
 use Rattle.std.proofs.lemmas.List.{take_all, take_more}
 use Rattle.cove_core.proofs.Rounds.{one_more, turn_within}
 use Rattle.cove_core.proofs.plays.named_turns.Goals as goal

@@ -1,7 +1,6 @@
 use Rattle.std.proofs.Common.{fold, take}
-use Rattle.cove_base.specs.declared.limits.TheConstants.{ENTRY_LIMIT}
+use Rattle.cove_model.specs.Machine.{ENTRY_LIMIT, turn}
 use Rattle.cove_core.specs.Plays.{AreReady, GoesOn}
-use Rattle.cove_model.specs.Played.{turn}
 use Rattle.cove_core.proofs.plays.named_turns.Given as goal
 
 abbrev pub invariant-loop-i : goal.invariant-loop-i

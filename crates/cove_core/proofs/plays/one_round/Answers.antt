@@ -1,7 +1,6 @@
 use Rattle.std.proofs.Common.{◌+◌, ◌<◌, ap, refl, sym, ◌∙◌, arith}
 use Rattle.std.proofs.lemmas.Bool.{false≢true}
-use Rattle.cove_base.specs.Scripts.{ScriptValue}
-use Rattle.cove_model.specs.States.{harts_below}
+use Rattle.cove_model.specs.Machine.{ScriptValue, harts_below}
 use Rattle.cove_core.proofs.Rounds.{harts_more, now_work, one_more, one_more_stays, still_work, work_changes}
 use Rattle.cove_core.proofs.plays.one_round.Goals.{then-turn_of, else-turn_of}
 use Rattle.cove_core.proofs.plays.one_round.Goals as goal

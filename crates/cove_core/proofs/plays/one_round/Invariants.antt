@@ -1,9 +1,7 @@
 use Rattle.std.proofs.Common.{◌≡◌, false, fold}
-use Rattle.cove_base.specs.declared.limits.TheConstants.{ENTRY_LIMIT}
+use Rattle.cove_model.specs.Machine.{ENTRY_LIMIT, turn, harts_below}
 use Rattle.cove_core.specs.Plays.{AreReady, GoesOn, Stays}
 use Rattle.cove_core.proofs.Rounds.{IsWork}
-use Rattle.cove_model.specs.Played.{turn}
-use Rattle.cove_model.specs.States.{harts_below}
 use Rattle.cove_core.proofs.plays.one_round.Given as goal
 
 abbrev pub invariant-loop-k : goal.invariant-loop-k

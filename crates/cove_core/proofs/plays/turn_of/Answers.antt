@@ -1,9 +1,8 @@
 use Rattle.std.proofs.Common.{◌≡◌, ◌<◌, List, Some, length, set, slice_get, sym, subst, ap, ◌∙◌, arith}
 use Rattle.std.proofs.lemmas.Option.{slice_get-get_or}
-use Rattle.cove_base.specs.declared.limits.TheConstants.{ENTRY_LIMIT}
+use Rattle.cove_model.specs.Machine.{ENTRY_LIMIT, turn}
 use Rattle.cove_core.specs.Plays.{AreReady, GoesOn}
 use Rattle.cove_hart.specs.declared.states.HartState.{HartState}
-use Rattle.cove_model.specs.Played.{turn}
 use Rattle.cove_core.proofs.Rounds.{turn_taken}
 use Rattle.cove_core.proofs.plays.turn_of.Goals as goal
 

@@ -1,8 +1,7 @@
 use Rattle.std.proofs.lemmas.Option.{none-some, same_Some}
 use Rattle.std.proofs.Common.{ℕ, ◌≡◌, ◌<◌, ◌∷◌, ◌++◌, [], Some, length, slice_get, refl, sym, subst, ap, ◌∙◌, arith}
 use Rattle.cove_base.specs.Guards.{guard_after}
-use Rattle.cove_base.specs.declared.events.Entry.{Entry}
-use Rattle.cove_base.specs.declared.limits.TheConstants.{ENTRY_LIMIT}
+use Rattle.cove_model.specs.Machine.{Entry, ENTRY_LIMIT}
 use Rattle.cove_core.proofs.Making.{allows_on, behind_at, can_do, entry_from, has_next, last_entry, made, next_at, none_behind, performing, some_last}
 use Rattle.cove_core.specs.Made.{IsMade, IsPerformed}
 use Rattle.cove_hart.specs.HartStates.{hart_value}

@@ -1,6 +1,5 @@
-use Rattle.cove_base.specs.declared.calls.HostCall.TheVariants.{Create}
+use Rattle.cove_model.specs.Machine.{Create, rule}
 use Rattle.cove_host.proofs.CheckedLemmas.{stops}
-use Rattle.cove_model.specs.HostCalls.{rule}
 use Rattle.cove_host.proofs.creation.creatable.Goals as goal
 
 pub returns-in_err-free-clause-told : goal.returns-in_err-free-clause-told

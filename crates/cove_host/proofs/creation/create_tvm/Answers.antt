@@ -1,7 +1,6 @@
 use Rattle.std.proofs.Common.{ℕ, ◌/◌, ◌∙◌, List, ap}
-use Rattle.cove_base.specs.PageWords.{given}
-use Rattle.cove_base.specs.Stores.{fills, stored}
-use Rattle.cove_base.specs.declared.numbers.Role.TheVariants.{Root, State}
+use Rattle.cove_model.specs.Machine.{given, fills, stored, Root}
+use Rattle.cove_base.specs.declared.numbers.Role.TheVariants.{State}
 use Rattle.cove_host.proofs.Creating.{creates, refuses, root_allowed, state_allowed}
 use Rattle.cove_host.proofs.creation.create_tvm.Goals as goal
 

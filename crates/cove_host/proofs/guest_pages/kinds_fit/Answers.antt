@@ -1,10 +1,9 @@
 use Rattle.std.proofs.Common.{◌∙◌, ◌+◌, ◌/◌, ◌^◌, ◌≤◌, not}
 use Rattle.std.proofs.lemmas.Bool.{not-false}
-use Rattle.cove_base.specs.declared.statuses.Status.TheVariants.{InvalidAddress}
+use Rattle.cove_model.specs.Machine.{InvalidAddress, find_tvm}
 use Rattle.cove_host.proofs.GuestsTold.{kind_near, kinds_told, never_outside}
 use Rattle.cove_host.proofs.PassedChecks.{on_pass}
 use Rattle.cove_host.specs.GuestRuns.{AreOfKind, kind_as}
-use Rattle.cove_model.specs.States.{find_tvm}
 use Rattle.cove_tvm.specs.TvmTables.{live_at}
 use Rattle.cove_host.proofs.guest_pages.kinds_fit.Goals as goal
 

@@ -1,12 +1,10 @@
 use Rattle.std.proofs.Common.{◌∙◌, ◌/◌, ap, not, sym}
 use Rattle.std.proofs.lemmas.Bool.{not-false}
-use Rattle.cove_base.specs.declared.statuses.Status.TheVariants.{AlreadyAvailable}
+use Rattle.cove_model.specs.Machine.{AlreadyAvailable, plain, find_tvm}
 use Rattle.cove_host.proofs.GuestsTold.{unmapped_told}
 use Rattle.cove_host.proofs.PassedChecks.{on_pass}
 use Rattle.cove_host.specs.Checked.{checked}
 use Rattle.cove_host.specs.GuestRuns.{HaveNoLeaf}
-use Rattle.cove_model.specs.Refusals.{plain}
-use Rattle.cove_model.specs.States.{find_tvm}
 use Rattle.cove_tvm.specs.TvmTables.{live_at}
 use Rattle.cove_host.proofs.guest_pages.unmapped.Goals as goal
 

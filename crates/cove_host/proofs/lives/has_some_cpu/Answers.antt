@@ -1,9 +1,7 @@
 use Rattle.std.proofs.Common.{◌∙◌, ap}
-use Rattle.cove_base.specs.declared.statuses.Status.TheVariants.{Denied}
+use Rattle.cove_model.specs.Machine.{Denied, plain, find_tvm}
 use Rattle.cove_host.proofs.LifeTold.{cpus_told}
 use Rattle.cove_host.specs.Checked.{checked}
-use Rattle.cove_model.specs.Refusals.{plain}
-use Rattle.cove_model.specs.States.{find_tvm}
 use Rattle.cove_tvm.specs.TvmTables.{live_at}
 use Rattle.cove_host.proofs.lives.has_some_cpu.Goals as goal
 

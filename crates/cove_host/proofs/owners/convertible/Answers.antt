@@ -1,8 +1,6 @@
 use Rattle.std.proofs.Common.{[], ◌∷◌, ◌∙◌, sym}
-use Rattle.cove_base.specs.declared.calls.HostCall.TheVariants.{Convert}
+use Rattle.cove_model.specs.Machine.{Convert, AllHost, rule}
 use Rattle.cove_host.proofs.CheckedLemmas.{each_passes, front_passes, stops}
-use Rattle.cove_model.specs.Checks.{AllHost}
-use Rattle.cove_model.specs.HostCalls.{rule}
 use Rattle.cove_host.proofs.owners.convertible.Goals as goal
 
 pub returns-in_err-counted-clause-told : goal.returns-in_err-counted-clause-told

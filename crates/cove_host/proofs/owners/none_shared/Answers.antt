@@ -1,11 +1,9 @@
 use Rattle.std.proofs.Common.{◌∙◌, ◌/◌, ap, sym}
 use Rattle.std.proofs.lemmas.Bool.{not-false}
-use Rattle.cove_base.specs.declared.statuses.Status.TheVariants.{Denied}
+use Rattle.cove_model.specs.Machine.{Denied, every, is_host, plain}
 use Rattle.cove_host.proofs.ReadyWords.{page_words}
 use Rattle.cove_host.proofs.SharedPages.{shared_told}
 use Rattle.cove_host.specs.Checked.{checked}
-use Rattle.cove_model.specs.Owners.{every, is_host}
-use Rattle.cove_model.specs.Refusals.{plain}
 use Rattle.cove_host.proofs.owners.none_shared.Goals as goal
 
 pub any_mapped-requires-clause-page_words : goal.any_mapped-requires-clause-page_words

@@ -1,7 +1,6 @@
 use Rattle.std.proofs.Common.{◌∙◌, sym}
-use Rattle.cove_base.specs.declared.calls.HostCall.TheVariants.{Reclaim}
+use Rattle.cove_model.specs.Machine.{Reclaim, rule}
 use Rattle.cove_host.proofs.CheckedLemmas.{front_passes, stops}
-use Rattle.cove_model.specs.HostCalls.{rule}
 use Rattle.cove_host.proofs.owners.reclaimable.Goals as goal
 
 pub returns-in_err-counted-clause-told : goal.returns-in_err-counted-clause-told

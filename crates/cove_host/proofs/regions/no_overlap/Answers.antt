@@ -1,9 +1,7 @@
 use Rattle.std.proofs.Common.{◌∙◌, ◌/◌, ap}
-use Rattle.cove_base.specs.declared.statuses.Status.TheVariants.{InvalidAddress}
+use Rattle.cove_model.specs.Machine.{InvalidAddress, plain, find_tvm}
 use Rattle.cove_host.proofs.RegionProofs.{overlap_told}
 use Rattle.cove_host.specs.Checked.{checked}
-use Rattle.cove_model.specs.Refusals.{plain}
-use Rattle.cove_model.specs.States.{find_tvm}
 use Rattle.cove_tvm.specs.TvmTables.{live_at}
 use Rattle.cove_host.proofs.regions.no_overlap.Goals as goal
 

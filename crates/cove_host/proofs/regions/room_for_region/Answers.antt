@@ -1,9 +1,8 @@
 use Rattle.std.proofs.Common.{◌∙◌, ap}
+use Rattle.cove_model.specs.Machine.{plain, find_tvm}
 use Rattle.cove_base.specs.declared.statuses.Status.TheVariants.{Failed}
 use Rattle.cove_host.proofs.RegionProofs.{room_told}
 use Rattle.cove_host.specs.Checked.{checked}
-use Rattle.cove_model.specs.Refusals.{plain}
-use Rattle.cove_model.specs.States.{find_tvm}
 use Rattle.cove_tvm.specs.TvmTables.{live_at}
 use Rattle.cove_host.proofs.regions.room_for_region.Goals as goal
 

@@ -1,9 +1,8 @@
 use Rattle.std.proofs.Common.{◌∙◌, ◌/◌, ap, not, sym}
-use Rattle.cove_base.specs.declared.statuses.Status.TheVariants.{InvalidAddress}
+use Rattle.cove_model.specs.Machine.{InvalidAddress, plain}
 use Rattle.cove_host.proofs.PageTests.{host_told}
 use Rattle.cove_host.proofs.ReadyWords.{page_words}
 use Rattle.cove_host.specs.Checked.{checked}
-use Rattle.cove_model.specs.Refusals.{plain}
 use Rattle.cove_host.proofs.runs.all_host.Goals as goal
 
 pub all_host-requires-clause-page_words : goal.all_host-requires-clause-page_words

@@ -1,7 +1,6 @@
 use Rattle.std.proofs.Common.{◌∙◌, sym}
-use Rattle.cove_base.specs.declared.calls.HostCall.TheVariants.{Zero}
+use Rattle.cove_model.specs.Machine.{Zero, rule}
 use Rattle.cove_host.proofs.CheckedLemmas.{front_passes, stops}
-use Rattle.cove_model.specs.HostCalls.{rule}
 use Rattle.cove_host.proofs.zero_pages.zeroable.Goals as goal
 
 pub returns-in_err-live-clause-told : goal.returns-in_err-live-clause-told

@@ -1,8 +1,5 @@
 use Rattle.std.proofs.Common.{◌≡◌, ◌<◌, ◌≤◌, ◌/◌, ◌%◌, ◌^◌, ℕ, zero, suc, false, cond, eqb, ltb, List, ◌∷◌, get_or, refl, ap, arith}
-use Rattle.cove_base.specs.PageWords.{given, released}
-use Rattle.cove_base.specs.Places.{hart_word, table_word, tvm_word}
-use Rattle.cove_base.specs.declared.numbers.Role.{Role}
-use Rattle.cove_base.specs.declared.numbers.Role.TheVariants.{Root, Table}
+use Rattle.cove_model.specs.Machine.{given, released, hart_word, table_word, tvm_word, Role, Root, Table}
 use Rattle.cove_lives.proofs.examples.worked_keeping.Goals as goal
 
 -- every word but the first

@@ -1,9 +1,5 @@
 use Rattle.std.proofs.Common.{◌≡◌, ◌≢◌, ◌∙◌, ◌↔◌, ℕ, ◌<◌, zero, suc, ◌/◌, ◌%◌, ◌^◌, false, cond, eqb, ltb, List, ◌∷◌, get_or, get_or-set_other, length-set, set, sym, ap, inl, inr, arith, ◌≤◌, refl}
-use Rattle.cove_base.specs.PageWords.{given}
-use Rattle.cove_base.specs.Places.{epoch_word, hart_word, tvm_word}
-use Rattle.cove_base.specs.declared.numbers.Role.{Role}
-use Rattle.cove_base.specs.declared.numbers.Role.TheVariants.{Table}
-use Rattle.cove_model.specs.LawfulStores.{IsTableOf}
+use Rattle.cove_model.specs.Machine.{given, epoch_word, hart_word, tvm_word, Role, Table, IsTableOf}
 use Rattle.cove_lives.proofs.examples.worked_storing.Goals as goal
 
 -- a word that stays tells the same of a page

@@ -2,13 +2,9 @@ use Rattle.std.proofs.Common.{◌≡◌, ℕ, Bool, true, false, cond, eqb, true
 use Rattle.std.proofs.lemmas.Option.{none-some}
 use Rattle.cove_model.proofs.BoundApart.{bound_apart_call}
 use Rattle.cove_model.proofs.guest_examples.worked_bound_files.Goals as goal
-use Rattle.cove_base.specs.declared.calls.HostCall.TheVariants.{Bind}
+use Rattle.cove_model.specs.Machine.{Bind, rule, AreBoundApart, AreDistinct, BoundFile, cpus_of, bound_file_in, bound_file_of, new_cpu, Tvm, new_tvm}
 use Rattle.cove_model.proofs.Changes.{place_at}
 use Rattle.cove_model.specs.GuestExamples.{first_cpu, tenant, unbound}
-use Rattle.cove_model.specs.HostCalls.{rule}
-use Rattle.cove_model.specs.Orderly.{AreBoundApart, AreDistinct, BoundFile, cpus_of, bound_file_in, bound_file_of}
-use Rattle.cove_model.specs.States.{new_cpu}
-use Rattle.cove_model.specs.Tvms.{Tvm, new_tvm}
 
 abbrev built : Tvm
 built = record tenant { runnable = false; mappings = [] }

@@ -1,7 +1,6 @@
 use Rattle.cove_model.proofs.laws.one_entry_later.Goals as goal
-use Rattle.cove_base.specs.declared.events.Entry.{Entry}
+use Rattle.cove_model.specs.Machine.{Entry, IsQuietAt, IsReached}
 use Rattle.cove_model.proofs.AtTheEnd.{after_push, each_front, each_last, each_push, legal_front, legal_last, legal_push, own_same, tlb_push, told_same}
-use Rattle.cove_model.specs.Cached.{IsQuietAt, IsReached}
 use Rattle.std.proofs.Common.{List, [], refl}
 
 pub returns-clause-state : goal.returns-clause-state

@@ -2,8 +2,7 @@ use Rattle.cove_base.proofs.ScriptLimits.{limits_of}
 use Rattle.cove_model.proofs.laws.translations_are_usable.Goals as goal
 use Rattle.cove_model.proofs.Histories.{usable}
 use Rattle.cove_model.proofs.Holding.{able_succeeds, held_since, holds_able}
-use Rattle.cove_model.specs.Histories.{after}
-use Rattle.cove_model.specs.Translations.{tlb}
+use Rattle.cove_model.specs.Machine.{after, tlb}
 
 pub returns-clause-held : goal.returns-clause-held
 returns-clause-held c = λ script history hart within legal. usable script (limits_of script within) history legal hart

@@ -1,10 +1,8 @@
 use Rattle.cove_model.proofs.promises.first_failing_checks_answer.Goals as goal
-use Rattle.cove_base.specs.declared.events.Event.{Event}
+use Rattle.cove_model.specs.Machine.{Event, after, Allows}
 use Rattle.cove_model.proofs.AtTheEnd.{legal_at}
 use Rattle.cove_model.proofs.FirstCheckProofs.{accepted_by_all, first_not_passed, first_once, first_or_passed, refused_by_first, success_by_all}
 use Rattle.cove_model.proofs.Loads.{call_answered}
-use Rattle.cove_model.specs.Histories.{after}
-use Rattle.cove_model.specs.Steps.{Allows}
 use Rattle.std.proofs.Common.{subst}
 
 pub returns-clause-refused : goal.returns-clause-refused

@@ -1,6 +1,5 @@
 use Rattle.std.proofs.Common.{◌≡◌, ◌<◌, refl, sym, ◌∙◌, ap, subst}
-use Rattle.cove_base.specs.HartValues.{after_walk}
-use Rattle.cove_base.specs.Scripts.{ScriptValue}
+use Rattle.cove_model.specs.Machine.{after_walk, ScriptValue}
 use Rattle.cove_board.specs.Passes.{IsHartPass, PassValue}
 use Rattle.cove_base.specs.declared.walks.Target.TheVariants.{Host}
 use Rattle.cove_board.specs.Parts.{hart_of}

@@ -1,8 +1,5 @@
 use Rattle.std.proofs.Common.{◌≡◌, ℕ, ◌≤◌, List, length, All, Ok, subst}
-use Rattle.cove_base.specs.declared.limits.TheConstants.{SCRIPT_LIMIT}
-use Rattle.cove_base.specs.declared.scripts.Fill.{Fill}
-use Rattle.cove_base.specs.declared.scripts.ScriptLine.{ScriptLine}
-use Rattle.cove_base.specs.Scripts.{ScriptValue}
+use Rattle.cove_model.specs.Machine.{SCRIPT_LIMIT, Fill, ScriptLine, ScriptValue}
 use Rattle.cove_model.specs.Grammar.{script_of}
 use Rattle.cove_model.specs.ScriptText.{script_text}
 use Rattle.cove_script.specs.MachineNumbers.{AreBytes, HasBytes, HasFittingNumbers, HasMachineNumbers}

@@ -1,8 +1,6 @@
 use Rattle.std.proofs.Common.{◌≡◌, false, sym, ap, ◌∙◌, below_more, arith}
-use Rattle.cove_base.specs.Scripts.{ScriptValue}
+use Rattle.cove_model.specs.Machine.{ScriptValue, after, is_behind, is_earlier}
 use Rattle.cove_core.proofs.Behind.{find_first, find_none}
-use Rattle.cove_model.specs.Histories.{after}
-use Rattle.cove_model.specs.Offers.{is_behind, is_earlier}
 use Rattle.cove_core.proofs.monitors.Mon.first_behind.Goals as goal
 
 pub returns-then-is_earlier-clause-some : goal.returns-then-is_earlier-clause-some

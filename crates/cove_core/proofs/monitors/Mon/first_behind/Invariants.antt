@@ -1,6 +1,5 @@
 use Rattle.std.proofs.Common.{◌≡◌, ℕ, ◌<◌, false}
-use Rattle.cove_model.specs.Histories.{after}
-use Rattle.cove_model.specs.Offers.{is_behind}
+use Rattle.cove_model.specs.Machine.{after, is_behind}
 use Rattle.cove_core.proofs.monitors.Mon.first_behind.Given as goal
 
 abbrev pub invariant-loop-k : goal.invariant-loop-k

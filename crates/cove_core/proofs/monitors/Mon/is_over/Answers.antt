@@ -1,10 +1,7 @@
 use Rattle.std.proofs.Common.{◌≡◌, None, sym, ap, ◌∙◌, below_more, arith}
 use Rattle.std.proofs.lemmas.Bool.{false≢true}
-use Rattle.cove_base.specs.HartLines.{next_line}
-use Rattle.cove_base.specs.Scripts.{ScriptValue}
+use Rattle.cove_model.specs.Machine.{next_line, ScriptValue, after, ended_by}
 use Rattle.cove_core.proofs.Rounds.{is_nothing, some_is_none}
-use Rattle.cove_model.specs.Histories.{after}
-use Rattle.cove_model.specs.States.{ended_by}
 use Rattle.cove_core.proofs.monitors.Mon.is_over.Goals as goal
 
 pub returns-then-is_some : goal.returns-then-is_some

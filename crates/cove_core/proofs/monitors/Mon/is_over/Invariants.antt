@@ -1,7 +1,5 @@
 use Rattle.std.proofs.Common.{◌≡◌, ℕ, ◌<◌, None}
-use Rattle.cove_base.specs.HartLines.{next_line}
-use Rattle.cove_model.specs.Histories.{after}
-use Rattle.cove_model.specs.States.{ended_by}
+use Rattle.cove_model.specs.Machine.{next_line, after, ended_by}
 use Rattle.cove_core.proofs.monitors.Mon.is_over.Given as goal
 
 abbrev pub invariant-loop-k : goal.invariant-loop-k

@@ -1,7 +1,6 @@
 use Rattle.std.proofs.Common.{get_or, slice_get, ap, ◌∙◌}
 use Rattle.cove_base.proofs.HartPlaceLemmas.{line_at_place}
-use Rattle.cove_model.specs.Histories.{after}
-use Rattle.cove_model.specs.States.{ended_by}
+use Rattle.cove_model.specs.Machine.{after, ended_by}
 use Rattle.cove_core.proofs.monitors.Mon.next_line.Goals as goal
 
 pub returns : goal.returns
