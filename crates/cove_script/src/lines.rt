@@ -1,5 +1,5 @@
 ghost use Rattle.std.specs.Prelude.{◌<◌, ◌≡◌, ◌^◌, IsTrue};
-ghost use Rattle.cove_model.specs.Grammar.{content_of, is_ascii, is_hart_word, is_remark, judged, line_read, words_read, Unknown};
+ghost use Rattle.cove_model.specs.Grammar.{content_of, is_ascii, is_hart_word, is_remark, is_text_byte, judged, line_read, words_read, Unknown};
 ghost use Rattle.cove_script.specs.Judging.{Judged, plain_words};
 
 use crate::faults::LineFault;
@@ -26,11 +26,22 @@ fn is_hart_word(word: &[u8]) -> bool
     matches!(word, [b'0'..=b'9', ..])
 }
 
-// Whether each byte of a line is printable ASCII, a tab or a carriage return.
+// Whether each byte of a line is printable ASCII, a tab or a carriage return. It looks at all of them, since a test that
+// leaves at the first other byte takes them one by one.
 fn is_ascii(line: &[u8]) -> bool
     ensures { result ≡ is_ascii line.now }
 {
-    line.iter().all(|byte| *byte == b'\t' || *byte == b'\r' || (b' ' <= *byte && *byte < 0x7f))
+    let mut all = true;
+    for byte in line {
+        all &= is_text_byte(*byte);
+    }
+    all
+}
+
+fn is_text_byte(byte: u8) -> bool
+    ensures { result ≡ is_text_byte byte }
+{
+    byte == b'\t' || byte == b'\r' || (b' ' <= byte && byte < 0x7f)
 }
 
 // A first word that begins no line.
