@@ -1,5 +1,5 @@
 -- The outcome of the creation of a vCPU.
-use Rattle.std.proofs.Common.{◌≡◌, ◌-◌, ◌+◌, ◌/◌, ◌≤◌, ◌∙◌, ℕ, zero, suc, false, List, [], ◌∷◌, get_or, Option, Some, None, is_some, Ok, refl, sym, ap, subst, inr, arith}
+use Rattle.std.proofs.Common.{◌≡◌, ◌+◌, ◌/◌, ◌≤◌, ◌∙◌, ℕ, zero, suc, false, List, [], ◌∷◌, get_or, Option, Some, None, is_some, Ok, refl, sym, ap, subst, inr, arith}
 use Rattle.std.proofs.lemmas.Option.{none-some}
 use Rattle.std.specs.Prelude.{unwrap_or}
 use Rattle.cove_base.proofs.StoreLemmas.{AllAllowed-weaker, get_or-fills_other}
@@ -10,13 +10,11 @@ use Rattle.cove_host.proofs.PassedChecks.{Gives, gives, may_give}
 use Rattle.cove_host.proofs.CheckedLemmas.{each_passes}
 use Rattle.cove_tvm.specs.Called.{Called, IsReady}
 use Rattle.cove_host.specs.Checked.{all_checked}
+use Rattle.cove_host.specs.FoundTvms.{ChangesTvm}
 use Rattle.cove_tvm.proofs.NewVcpu.{adding_is_lawful, adding_stands}
 use Rattle.cove_tvm.specs.NewVcpus.{AddsCpu, vcpu_stores}
 use Rattle.cove_tvm.specs.Stands.{Stands}
-use Rattle.cove_tvm.specs.TvmLends.{with_tvm}
-use Rattle.cove_tvm.specs.TvmTables.{live_at}
 use Rattle.cove_tvm.specs.declared.ground.Ground.{Ground}
-use Rattle.cove_tvm.specs.declared.machines.Tvm.{Tvm}
 
 -- the checks of the call
 abbrev pub adding_checks : State → (t v state : ℕ) → List Check
@@ -67,9 +65,7 @@ module _ (words : List ℕ) (G : Ground) (hart v state : ℕ) (ready : IsReady w
 
   module _ (H : Ground) where
     abbrev Adds : (t : ℕ) → Type 0
-    Adds t =
-        (old : Tvm) → live_at G.tvms t ≡ Some old
-        → (new : Tvm) × AddsCpu v (state / 4096) old new × (H ≡ record G { tvms = with_tvm G.tvms (t - 1) new })
+    Adds t = ChangesTvm t (AddsCpu v (state / 4096)) G H
 
     after : (t : ℕ) (S : State) (stands : Stands words G S) → IsSeated S → Passed words G S t v state → Adds t
         → Stands (stored words (vcpu_stores t state)) H (rule S hart (VcpuCall t v state)).outcome.state

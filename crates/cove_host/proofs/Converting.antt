@@ -1,5 +1,5 @@
 -- The outcome of a convert.
-use Rattle.std.proofs.Common.{◌≡◌, ℕ, ◌+◌, ◌/◌, ◌≤◌, List, [], ◌∷◌, get_or, Ok, true, false, refl, sym, inr, arith}
+use Rattle.std.proofs.Common.{◌≡◌, ℕ, ◌+◌, ◌/◌, ◌≤◌, List, [], ◌∷◌, get_or, true, false, refl, inr, arith}
 use Rattle.std.proofs.lemmas.Bool.{not-false}
 use Rattle.std.specs.List.{list_any}
 use Rattle.cove_base.proofs.StoreLemmas.{AllAllowed-weaker, get_or-fills_other}
@@ -11,7 +11,6 @@ use Rattle.cove_host.proofs.PassedCalls.{AllPass}
 use Rattle.cove_host.proofs.PassedChecks.{inside_passes}
 use Rattle.cove_host.proofs.SharedPages.{in_run, unshared_words}
 use Rattle.cove_tvm.specs.Called.{Called, IsReady}
-use Rattle.cove_host.specs.Checked.{all_checked}
 use Rattle.cove_model.proofs.LawfulProofs.{convert_is_lawful}
 use Rattle.cove_model.specs.WordLaws.{convert_stores}
 use Rattle.cove_tvm.proofs.OwnerCalls.{ground_converts}

@@ -1,30 +1,29 @@
 -- The end of a TVM, and the outcome of its destruction.
-use Rattle.std.proofs.Common.{◌≡◌, ℕ, zero, suc, ◌+◌, ◌-◌, ◌^◌, ◌<◌, ◌≤◌, false, true, List, ◌∷◌, ◌++◌, get_or, length, Option, Some, None, Ok, refl, sym, subst, arith}
+use Rattle.std.proofs.Common.{◌≡◌, ℕ, zero, suc, ◌+◌, ◌-◌, ◌^◌, ◌<◌, ◌≤◌, false, true, List, ◌∷◌, ◌++◌, get_or, length, Some, refl, sym, subst, arith}
 use Rattle.std.proofs.lemmas.Option.{none-some}
 use Rattle.std.specs.List.{range_with_len}
 use Rattle.cove_base.proofs.StoreLemmas.{AllAllowed-weaker}
-use Rattle.cove_model.specs.Machine.{count_word, epoch_word, table_word, tvm_word, AllAllowed, stored, Destroy, Success, rule, AllowsLawful, IsLawful, MakesLawful, State, find_tvm}
+use Rattle.cove_model.specs.Machine.{table_word, AllAllowed, stored, Destroy, Success, rule, AllowsLawful, IsLawful, MakesLawful, State, find_tvm}
 use Rattle.cove_stage2.proofs.LawfulLemmas.{leads_on}
 use Rattle.cove_clear.specs.Clearing.{Goes, IsBeingCleared, MayBeCleared, Proceeds}
 use Rattle.cove_host.proofs.Beginning.{begins_leaving}
 use Rattle.cove_host.proofs.CheckedLemmas.{each_passes}
-use Rattle.cove_host.proofs.LifeTold.{both_live}
+use Rattle.cove_host.proofs.LifeTold.{both_live, live_modelled}
 use Rattle.cove_host.proofs.TakenPages.{all_destroys, all_lawful, all_own}
 use Rattle.cove_tvm.specs.Called.{Called, IsMet, IsReady}
-use Rattle.cove_host.specs.Checked.{all_checked}
 use Rattle.cove_host.proofs.PassedCalls.{AllPass, lawful_call}
 use Rattle.cove_host.specs.Ended.{HasEnded, IsEnding, MayEnd}
+use Rattle.cove_host.specs.FoundTvms.{ChangesTvm}
 use Rattle.cove_host.specs.HartsInside.{is_inside}
 use Rattle.cove_host.specs.Released.{HavePlaces, all_cpu_pages, release_stores}
 use Rattle.cove_model.specs.Tvms.{Tvm as ModelTvm}
-use Rattle.cove_tvm.proofs.BuiltRegions.{live_stands}
 use Rattle.cove_tvm.proofs.GoneTvm.{destroy_stands}
 use Rattle.cove_tvm.proofs.KeptGround.{live_made}
 use Rattle.cove_tvm.specs.DestroyedTvms.{Destroys}
 use Rattle.cove_tvm.specs.Lives.{is_gone}
 use Rattle.cove_tvm.specs.Stands.{Stands}
 use Rattle.cove_tvm.specs.TvmLends.{with_tvm}
-use Rattle.cove_tvm.specs.TvmStands.{LiveStands, TvmStands}
+use Rattle.cove_tvm.specs.TvmStands.{LiveStands}
 use Rattle.cove_tvm.specs.TvmTables.{live_at}
 use Rattle.cove_tvm.specs.declared.ground.Ground.{Ground}
 use Rattle.cove_tvm.specs.declared.machines.Tvm.{Tvm}
@@ -97,34 +96,19 @@ module _ (words : List ℕ) (G : Ground) (hart t : ℕ) (ready : IsReady words G
 
   -- a live TVM may end, whatever state stands
   ending : (S : State) → IsMet S → Stands words G S → (tvm : Tvm) → live_at G.tvms t ≡ Some tvm → IsEnding G.harts words t tvm
-  ending S met stands tvm live = go (find_tvm S t) refl
-    where
-      go : (v : Option ModelTvm) → find_tvm S t ≡ v → IsEnding G.harts words t tvm
-      go None none =
-          absurd (subst (λ v. TvmStands G.pages G.harts words t S.seats G.files (Some tvm) v) none
-          (subst (λ x. TvmStands G.pages G.harts words t S.seats G.files x (find_tvm S t)) live (stands.tvm t)))
-      go (Some model) found =
-          let stand = live_stands words G S t tvm model stands live found in
-          record {
-            seats = S.seats;
-            files = G.files;
-            model = model;
-            live = subst (λ n. LiveStands n G.harts words t S.seats G.files tvm model) (sym stand.board) stand;
-            leaving = subst (λ n. IsLeaving_at n) (sym stand.board)
-                (begins_leaving words G S stands met.sound few met.orderly t tvm model (live_made G.tvms t tvm live).0 stand found outside);
-          }
-        where
-          IsLeaving_at : ℕ → Type 0
-          IsLeaving_at n = IsBeingCleared n G.harts words t tvm.tables.root.0 tvm.pool.pages
+  ending S met stands tvm live =
+      let one = live_modelled stands live in
+      record {
+        seats = S.seats;
+        files = G.files;
+        model = one.model;
+        live = subst (λ n. LiveStands n G.harts words t S.seats G.files tvm one.model) (sym one.stands.board) one.stands;
+        leaving = subst (λ n. IsBeingCleared n G.harts words t tvm.tables.root.0 tvm.pool.pages) (sym one.stands.board)
+            (begins_leaving words G S stands met.sound few met.orderly t tvm one.model (live_made G.tvms t tvm live).0 one.stands one.found outside);
+      }
 
   board : (tvm : Tvm) → live_at G.tvms t ≡ Some tvm → tvm.tables.pages ≡ G.pages
-  board tvm live = go (find_tvm ready.state t) refl
-    where
-      go : (v : Option ModelTvm) → find_tvm ready.state t ≡ v → tvm.tables.pages ≡ G.pages
-      go None none =
-          absurd (subst (λ v. TvmStands G.pages G.harts words t ready.state.seats G.files (Some tvm) v) none
-          (subst (λ x. TvmStands G.pages G.harts words t ready.state.seats G.files x (find_tvm ready.state t)) live (ready.stands.tvm t)))
-      go (Some model) found = (live_stands words G ready.state t tvm model ready.stands live found).board
+  board tvm live = (live_modelled ready.stands live).stands.board
 
   pub may_end : (allows : List ℕ → ℕ → ℕ → Type 0) → AllowsLawful allows G.pages G.harts hart words → (tvm : Tvm) → live_at G.tvms t ≡ Some tvm → MayEnd allows words tvm
   may_end allows lawful tvm live = (
@@ -137,7 +121,7 @@ module _ (words : List ℕ) (G : Ground) (hart t : ℕ) (ready : IsReady words G
   )
 
   module _ (new : List ℕ) (H : Ground) (told : AllPass (λ S. rule S hart (Destroy t)) words G)
-      (ended : (old : Tvm) → live_at G.tvms t ≡ Some old → (gone : Tvm) × HasEnded words new old gone × (H ≡ record G { tvms = with_tvm G.tvms (t - 1) gone })) where
+      (ended : ChangesTvm t (HasEnded words new) G H) where
     both : (S : State) (stands : Stands words G S) → (tvm : Tvm) × (model : ModelTvm) × (live_at G.tvms t ≡ Some tvm) × (find_tvm S t ≡ Some model)
     both S stands =
         both_live words G S t (live_at G.tvms t) (find_tvm S t) (stands.tvm t) (each_passes (rule S hart (Destroy t)).checks (told S stands) 0)

@@ -1,5 +1,5 @@
 -- The outcome of finalizing a TVM.
-use Rattle.std.proofs.Common.{◌≡◌, ◌-◌, ℕ, zero, suc, List, [], Some, refl, sym}
+use Rattle.std.proofs.Common.{◌≡◌, ℕ, zero, suc, List, [], Some, refl}
 use Rattle.std.proofs.lemmas.Option.{none-some}
 use Rattle.cove_model.specs.Machine.{Finalize, Success, Rule, rule, State, find_tvm}
 use Rattle.cove_host.proofs.PassedCalls.{AllPass, passed_call, stands_written}
@@ -7,11 +7,11 @@ use Rattle.cove_host.proofs.CheckedLemmas.{each_passes}
 use Rattle.cove_host.proofs.LifeTold.{both_live}
 use Rattle.cove_tvm.specs.Called.{Called}
 use Rattle.cove_host.specs.Finalized.{IsFinalized}
+use Rattle.cove_host.specs.FoundTvms.{ChangesTvm}
 use Rattle.cove_model.specs.Tvms.{Tvm as ModelTvm}
 use Rattle.cove_tvm.proofs.BuiltRegions.{live_stands}
 use Rattle.cove_tvm.proofs.FinalizedTvm.{finalize_stands}
 use Rattle.cove_tvm.specs.Stands.{Stands}
-use Rattle.cove_tvm.specs.TvmLends.{with_tvm}
 use Rattle.cove_tvm.specs.TvmTables.{live_at}
 use Rattle.cove_tvm.specs.declared.ground.Ground.{Ground}
 use Rattle.cove_tvm.specs.declared.machines.Tvm.{Tvm}
@@ -23,9 +23,7 @@ module _ (words : List ℕ) (G H : Ground) (hart pc arg : ℕ) where
 
   -- the ground after the TVM with a number was finalized
   abbrev Finishes : (t : ℕ) → Type 0
-  Finishes t =
-      (old : Tvm) → live_at G.tvms t ≡ Some old
-      → (new : Tvm) × IsFinalized pc arg old new × (H ≡ record G { tvms = with_tvm G.tvms (t - 1) new })
+  Finishes t = ChangesTvm t (IsFinalized pc arg) G H
 
   finished : (t : ℕ) (S : State) (tvm : Tvm) (model : ModelTvm) → Stands words G S → live_at G.tvms t ≡ Some tvm → find_tvm S t ≡ Some model
       → Finishes t → Stands words H (rule S hart (Finalize t pc arg)).outcome.state

@@ -10,7 +10,8 @@ use Rattle.cove_host.proofs.GrowingRuns.{Grows, grows, run_called, run_mapped}
 use Rattle.cove_host.proofs.PassedCalls.{AllPass, stands_written}
 use Rattle.cove_host.proofs.PassedChecks.{inside_passes}
 use Rattle.cove_host.specs.GuestRuns.{mapping_checks}
-use Rattle.cove_host.specs.MeasuredRuns.{MeasuresOf, frames_from}
+use Rattle.cove_host.specs.FoundTvms.{ChangesTvm}
+use Rattle.cove_host.specs.MeasuredRuns.{MeasuresIn, frames_from}
 use Rattle.cove_model.proofs.Runs.{every_at}
 use Rattle.cove_model.specs.Tvms.{Tvm as ModelTvm}
 use Rattle.cove_tvm.proofs.PrivateRuns.{content_is, measured_stands, memory_is_lawful, prepares}
@@ -101,7 +102,7 @@ module _ {words : List ℕ} {G : Ground} (ready : IsReady words G) (src dst n gp
 
     measured_after : (k : ℕ) (S : State) (old : Tvm) (model : ModelTvm) → MayGrow words G S k dst n gpa old model
         → src / 4096 + n ≤ G.pages → every is_host (src / 4096) n S.pages ≡ true → 4096 * (gpa / 4096) ≡ gpa
-        → MeasuresOf (suc k) (gpa / 4096) (dst / 4096) n (with_memory words (suc k) dst n) new (record G { memory = frames }) H
+        → ChangesTvm (suc k) (MeasuresIn (gpa / 4096) (dst / 4096) n frames (with_memory words (suc k) dst n) new) (record G { memory = frames }) H
         → Stands new H (rule S hart (Measured (suc k) src dst n gpa)).outcome.state
     measured_after k S old model may inside hosts place measures_of =
         let done = measures_of old may.live in
@@ -116,7 +117,7 @@ module _ {words : List ℕ} {G : Ground} (ready : IsReady words G) (src dst n gp
 
     -- an accepted call, by what the code leaves
     pub adds_measured : (t : ℕ) → AllPass (by_rule t) words G
-        → MeasuresOf t (gpa / 4096) (dst / 4096) n (with_memory words t dst n) new (record G { memory = frames }) H
+        → ChangesTvm t (MeasuresIn (gpa / 4096) (dst / 4096) n frames (with_memory words t dst n) new) (record G { memory = frames }) H
         → Called hart (by_rule t) words new G H (record { status = Success; value = 0 })
     adds_measured zero told measures_of = absurd (measures 0 told ready.state ready.stands).grown
     adds_measured (suc k) told measures_of =

@@ -1,16 +1,16 @@
 -- Guest pages of a TVM are mapped to a run of pages: what the checks tell, and what the code leaves.
-use Rattle.std.proofs.Common.{◌≡◌, ◌∙◌, ℕ, zero, suc, ◌+◌, ◌/◌, ◌^◌, ◌≤◌, Bool, false, is_some, not, List, ◌∷◌, Some, Ok, sym, ap, subst, inr, arith}
+use Rattle.std.proofs.Common.{◌≡◌, ◌∙◌, ℕ, zero, suc, ◌+◌, ◌/◌, ◌^◌, ◌≤◌, Bool, false, is_some, List, Some, Ok, sym, ap, subst, inr, arith}
 use Rattle.std.proofs.lemmas.Bool.{ltb-false, not-false}
 use Rattle.std.proofs.lemmas.Option.{none-some, same_Some}
 use Rattle.std.specs.List.{list_any}
 use Rattle.std.specs.Prelude.{unwrap_or}
-use Rattle.cove_model.specs.Machine.{InvalidAddress, Success, EnoughTables, IsRunnable, Live, Unmapped, WithinMemory, missing_tables, page_run, Rule, AllowsLawful, IsLawful, MakesLawful, mapping_of, Owner, every, Aligned, Check, Count, plain, State, find_tvm}
+use Rattle.cove_model.specs.Machine.{Success, EnoughTables, Live, Unmapped, WithinMemory, missing_tables, page_run, Rule, AllowsLawful, IsLawful, MakesLawful, mapping_of, Owner, every, State, find_tvm}
 use Rattle.cove_host.proofs.CheckedLemmas.{each_passes}
 use Rattle.cove_host.proofs.LifeTold.{both_live}
 use Rattle.cove_host.proofs.PassedCalls.{AllPass, lawful_call}
 use Rattle.cove_host.proofs.PassedChecks.{inside_passes}
 use Rattle.cove_host.specs.Checked.{all_checked}
-use Rattle.cove_host.specs.GuestRuns.{mapping_checks}
+use Rattle.cove_host.specs.GuestRuns.{AllOwned, run_checks}
 use Rattle.cove_host.specs.Mapped.{MapsRun, MayMapBy}
 use Rattle.cove_model.specs.Tvms.{Tvm as ModelTvm, new_tvm}
 use Rattle.cove_stage2.proofs.LawfulLemmas.{leads_on}
@@ -24,16 +24,6 @@ use Rattle.cove_tvm.specs.TvmTables.{live_at}
 use Rattle.cove_tvm.specs.UnmappedRuns.{MayMapOwnedBy}
 use Rattle.cove_tvm.specs.declared.ground.Ground.{Ground}
 use Rattle.cove_tvm.specs.declared.machines.Tvm.{Tvm}
-
--- ---- the checks of a call that maps one run
-
--- the owner of each page passes a test
-abbrev pub AllAre : (test : Owner → Bool) → State → (base n : ℕ) → Check
-AllAre test S base n = plain (not (every test (base / 4096) n S.pages)) InvalidAddress
-
-abbrev pub run_checks : (test : Owner → Bool) (shared : Bool) → State → (t base n gpa : ℕ) → List Check
-run_checks test shared S t base n gpa =
-    Live S t ∷ IsRunnable S t ∷ Count n ∷ Aligned base ∷ Aligned gpa ∷ WithinMemory S base n ∷ AllAre test S base n ∷ mapping_checks shared S t gpa n
 
 -- ---- what they tell
 
@@ -49,7 +39,7 @@ Grows test words G S zero base n gpa = ⊥
 Grows test words G S (suc k) base n gpa = Grown test words G S k base n gpa
 
 module _ {words : List ℕ} {G : Ground} (ready : IsReady words G) (base n gpa : ℕ) (near : gpa / 4096 + n ≤ 2 ^ 29) (test : Owner → Bool) where
-  pub grows : (t : ℕ) (S : State) → Stands words G S → (Live S t).fails ≡ false → (WithinMemory S base n).fails ≡ false → (AllAre test S base n).fails ≡ false
+  pub grows : (t : ℕ) (S : State) → Stands words G S → (Live S t).fails ≡ false → (WithinMemory S base n).fails ≡ false → (AllOwned test S base n).fails ≡ false
       → (Unmapped S t gpa n).fails ≡ false → (EnoughTables S t gpa n).fails ≡ false → Grows test words G S t base n gpa
   grows t S stands lives inside owners unmapped enough = go t (both_live words G S t (live_at G.tvms t) (find_tvm S t) (stands.tvm t) lives) unmapped enough
     where

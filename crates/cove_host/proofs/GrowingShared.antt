@@ -4,7 +4,8 @@ use Rattle.cove_model.specs.Machine.{Shared, Success, Rule, rule, AllowsLawful, 
 use Rattle.cove_host.proofs.GrowingRuns.{Grows, run_allowed, run_called, run_grows, run_mapped}
 use Rattle.cove_host.proofs.PassedCalls.{AllPass, stands_written}
 use Rattle.cove_host.proofs.ReadyWords.{few_maps}
-use Rattle.cove_host.specs.Mapped.{MapsOf, MayMapBy}
+use Rattle.cove_host.specs.FoundTvms.{ChangesTvm}
+use Rattle.cove_host.specs.Mapped.{MapsIn, MayMapBy}
 use Rattle.cove_host.specs.Raised.{AreHosts, MayRaise, RaisesBy}
 use Rattle.cove_tvm.proofs.SharedRuns.{host_word, prepares, shared_stands}
 use Rattle.cove_tvm.specs.Called.{Called, IsReady}
@@ -56,7 +57,7 @@ module _ {words : List ℕ} {G : Ground} (ready : IsReady words G) (base n gpa :
         run_allowed one.may (prepares one.may raises.raised) hart allows lawful tvm live
 
     -- an accepted call, by what the code leaves
-    pub adds_shared : (H : Ground) (new : List ℕ) (t : ℕ) → AllPass (by_rule t) words G → MapsOf t (gpa / 4096) (base / 4096) n true raised new G H
+    pub adds_shared : (H : Ground) (new : List ℕ) (t : ℕ) → AllPass (by_rule t) words G → ChangesTvm t (MapsIn (gpa / 4096) (base / 4096) n true raised new) G H
         → Called hart (by_rule t) words new G H (record { status = Success; value = 0 })
     adds_shared H new zero told maps = absurd (shares 0 told ready.state ready.stands)
     adds_shared H new (suc k) told maps =

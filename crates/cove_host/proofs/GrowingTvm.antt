@@ -4,7 +4,8 @@ use Rattle.cove_base.proofs.StoreLemmas.{AllAllowed-weaker}
 use Rattle.cove_model.specs.Machine.{AllAllowed, Zero, Success, Rule, rule, AllowsLawful, IsLawful, is_free, zeros, State}
 use Rattle.cove_host.proofs.GrowingRuns.{Grows, run_allowed, run_called, run_grows, run_mapped}
 use Rattle.cove_host.proofs.PassedCalls.{AllPass, stands_written}
-use Rattle.cove_host.specs.Mapped.{MapsOf, MayMapBy}
+use Rattle.cove_host.specs.FoundTvms.{ChangesTvm}
+use Rattle.cove_host.specs.Mapped.{MapsIn, MayMapBy}
 use Rattle.cove_tvm.proofs.PrivateRuns.{memory_is_lawful, prepares, zero_stands}
 use Rattle.cove_tvm.specs.Called.{Called, IsReady}
 use Rattle.cove_tvm.specs.PrivateRuns.{FillsFrames, memory_stores, with_memory}
@@ -47,7 +48,7 @@ module _ {words : List ℕ} {G : Ground} (ready : IsReady words G) (base n gpa :
     -- an accepted call, by what the code leaves
     pub adds_zero : (H : Ground) (frames : List (List ℕ)) (new : List ℕ) → FillsFrames (base / 4096) n (λ j. zeros) G.memory frames
         → (t : ℕ) → AllPass (by_rule t) words G
-        → MapsOf t (gpa / 4096) (base / 4096) n false (with_memory words t base n) new (record G { memory = frames }) H
+        → ChangesTvm t (MapsIn (gpa / 4096) (base / 4096) n false (with_memory words t base n) new) (record G { memory = frames }) H
         → Called hart (by_rule t) words new G H (record { status = Success; value = 0 })
     adds_zero H frames new filled zero told maps = absurd (zero_grows 0 told ready.state ready.stands)
     adds_zero H frames new filled (suc k) told maps =

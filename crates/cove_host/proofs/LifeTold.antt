@@ -1,13 +1,17 @@
 -- What the TVMs of the ground tell of those of a state.
-use Rattle.std.proofs.Common.{◌≡◌, ◌∙◌, ℕ, zero, suc, ◌==◌, Bool, true, false, List, [], ◌∷◌, length, Option, Some, None, is_none, cond, refl, sym, ap, arith}
+use Rattle.std.proofs.Common.{◌≡◌, ◌∙◌, ◌-◌, ℕ, zero, suc, ◌==◌, Bool, true, false, List, [], ◌∷◌, length, Option, Some, None, is_none, is_some, cond, refl, sym, ap, subst, arith}
 use Rattle.std.proofs.lemmas.Bool.{eq-eqb, ne_eqb}
-use Rattle.std.proofs.lemmas.Option.{none-some}
+use Rattle.std.proofs.lemmas.Option.{none-some, same_Some}
 use Rattle.std.specs.Prelude.{unwrap_or}
-use Rattle.cove_host.specs.FoundTvms.{has_no_cpu}
-use Rattle.cove_model.specs.Machine.{at, State, find_cpu}
+use Rattle.cove_host.specs.FoundTvms.{ChangesTvm, IsLiveTvm, has_no_cpu}
+use Rattle.cove_model.specs.Machine.{at, State, find_cpu, find_tvm, tvm_at}
 use Rattle.cove_model.specs.Tvms.{Cpu, Tvm as ModelTvm, new_tvm}
+use Rattle.cove_tvm.specs.Lives.{is_runnable}
 use Rattle.cove_tvm.specs.Slots.{slot_at}
-use Rattle.cove_tvm.specs.TvmStands.{TvmStands}
+use Rattle.cove_tvm.specs.Stands.{Stands}
+use Rattle.cove_tvm.specs.TvmLends.{with_tvm}
+use Rattle.cove_tvm.specs.TvmStands.{LiveStands, TvmStands}
+use Rattle.cove_tvm.specs.TvmTables.{live_at}
 use Rattle.cove_tvm.specs.VcpuStands.{SlotStands}
 use Rattle.cove_tvm.specs.declared.ground.Ground.{Ground}
 use Rattle.cove_tvm.specs.declared.machines.Tvm.{Tvm}
@@ -41,7 +45,7 @@ some_fourth None None None None slot is = absurd (none-some slot is)
 some_fourth None None None (Some x) slot is = refl
 
 -- a TVM with a vCPU doesn't lack all
-some_slot : (tvm : Tvm) (v : ℕ) (slot : VcpuSlot) → slot_at tvm v ≡ Some slot → has_no_cpu (Some tvm) ≡ false
+some_slot : (tvm : Tvm) (v : ℕ) (slot : VcpuSlot) → slot_at tvm v ≡ Some slot → has_no_cpu tvm ≡ false
 some_slot tvm zero slot is = some_first tvm.v0 tvm.v1 tvm.v2 tvm.v3 slot is
 some_slot tvm (suc zero) slot is = some_second tvm.v0 tvm.v1 tvm.v2 tvm.v3 slot is
 some_slot tvm (suc (suc zero)) slot is = some_third tvm.v0 tvm.v1 tvm.v2 tvm.v3 slot is
@@ -68,7 +72,7 @@ module _ (words : List ℕ) (G : Ground) (S : State) (t : ℕ) where
   one_slot v None (Some other) cpu stands is = absurd stands
 
   slots_told : (tvm : Tvm) (model : ModelTvm) (cpus : List Cpu) → model.cpus ≡ cpus
-      → ((v : ℕ) → SlotStands G.pages G.harts words S.seats G.files t v (slot_at tvm v) (find_cpu model v)) → has_no_cpu (Some tvm) ≡ (length cpus == 0)
+      → ((v : ℕ) → SlotStands G.pages G.harts words S.seats G.files t v (slot_at tvm v) (find_cpu model v)) → has_no_cpu tvm ≡ (length cpus == 0)
   slots_told tvm model [] are slots =
       let none = λ (v : ℕ). no_slot v (slot_at tvm v) (find_cpu model v) (slots v) (ap (at (λ cpu. cpu.number) v) are) in
       all_none tvm.v0 tvm.v1 tvm.v2 tvm.v3 (none 0) (none 1) (none 2) (none 3)
@@ -77,14 +81,6 @@ module _ (words : List ℕ) (G : Ground) (S : State) (t : ℕ) where
       (ap (at (λ c. c.number) cpu.number) are ∙ found_first cpu cpus) in
       some_slot tvm cpu.number one.0 one.1 ∙ sym (ne_eqb (length (cpu ∷ cpus)) 0 (λ e. omega arith))
 
-  -- a TVM lacks vCPUs where it has none in the state
-  pub cpus_told : (x : Option Tvm) (v : Option ModelTvm) → TvmStands G.pages G.harts words t S.seats G.files x v
-      → has_no_cpu x ≡ (length (unwrap_or v (new_tvm t)).cpus == 0)
-  cpus_told None None stands = refl
-  cpus_told None (Some model) stands = absurd stands
-  cpus_told (Some tvm) None stands = absurd stands
-  cpus_told (Some tvm) (Some model) stands = slots_told tvm model model.cpus refl stands.fields.cpu
-
   -- a TVM that is live in the state is live in the ground
   pub both_live : (x : Option Tvm) (v : Option ModelTvm) → TvmStands G.pages G.harts words t S.seats G.files x v → is_none v ≡ false
       → (tvm : Tvm) × (model : ModelTvm) × (x ≡ Some tvm) × (v ≡ Some model)
@@ -92,3 +88,54 @@ module _ (words : List ℕ) (G : Ground) (S : State) (t : ℕ) where
   both_live None (Some model) stands some = absurd stands
   both_live (Some tvm) None stands some = absurd stands
   both_live (Some tvm) (Some model) stands some = (tvm, model, refl, refl)
+
+-- ---- a live TVM
+
+-- the TVM that a live one stands for
+pub record IsModelled (words : List ℕ) (G : Ground) (S : State) (t : ℕ) (tvm : Tvm) : Type 0 where
+  pub model : ModelTvm
+  pub found : find_tvm S t ≡ Some model
+  pub stands : LiveStands G.pages G.harts words t S.seats G.files tvm model
+
+pub live_modelled : {words : List ℕ} {G : Ground} {S : State} {t : ℕ} {tvm : Tvm} → Stands words G S → live_at G.tvms t ≡ Some tvm → IsModelled words G S t tvm
+live_modelled {words} {G} {S} {t} {tvm} stands live = go (find_tvm S t) refl (stands.tvm t)
+  where
+    go : (v : Option ModelTvm) → find_tvm S t ≡ v → TvmStands G.pages G.harts words t S.seats G.files (live_at G.tvms t) v → IsModelled words G S t tvm
+    go None none both = absurd (subst (λ x. TvmStands G.pages G.harts words t S.seats G.files x None) live both)
+    go (Some model) found both = record {
+      model = model;
+      found = found;
+      stands = subst (λ x. TvmStands G.pages G.harts words t S.seats G.files x (Some model)) live both;
+    }
+
+pub is_live : {words : List ℕ} {G : Ground} {S : State} {t : ℕ} {tvm : Tvm} → Stands words G S → live_at G.tvms t ≡ Some tvm → IsLiveTvm words S t tvm
+is_live {words} {G} stands live = record { ground = G; stands = stands; live = live }
+
+-- the checks look at the TVM that it stands for
+pub live_stand : {words : List ℕ} {S : State} {t : ℕ} {tvm : Tvm} (one : IsLiveTvm words S t tvm)
+    → LiveStands one.ground.pages one.ground.harts words t S.seats one.ground.files tvm (tvm_at S t)
+live_stand {words} {S} {t} {tvm} one =
+    let is = live_modelled one.stands one.live in
+    subst (LiveStands one.ground.pages one.ground.harts words t S.seats one.ground.files tvm) (ap (λ v. unwrap_or v (new_tvm t)) (sym is.found)) is.stands
+
+module _ {words : List ℕ} {S : State} {t : ℕ} {tvm : Tvm} (one : IsLiveTvm words S t tvm) where
+  pub life_told : is_runnable tvm.life ≡ (tvm_at S t).runnable
+  life_told = (live_stand one).fields.life
+
+  -- it lacks vCPUs where it has none in the state
+  pub cpus_told : has_no_cpu tvm ≡ (length (tvm_at S t).cpus == 0)
+  cpus_told = slots_told words one.ground S t tvm (tvm_at S t) (tvm_at S t).cpus refl (live_stand one).fields.cpu
+
+  pub cpu_told : (v : ℕ) → is_some (slot_at tvm v) ≡ is_some (find_cpu (tvm_at S t) v)
+  cpu_told v = go (slot_at tvm v) (find_cpu (tvm_at S t) v) ((live_stand one).fields.cpu v)
+    where
+      go : (slot : Option VcpuSlot) (cpu : Option Cpu) → SlotStands one.ground.pages one.ground.harts words S.seats one.ground.files t v slot cpu → is_some slot ≡ is_some cpu
+      go None None stands = refl
+      go None (Some cpu) stands = absurd stands
+      go (Some slot) None stands = absurd stands
+      go (Some slot) (Some cpu) stands = refl
+
+-- the ground after its live TVM changed
+pub changed : (t : ℕ) (G : Ground) (how : Tvm → Tvm → Type 0) (tvm new : Tvm) → Some tvm ≡ live_at G.tvms t → how tvm new
+    → ChangesTvm t how G (record G { tvms = with_tvm G.tvms (t - 1) new })
+changed t G how tvm new live did = λ old is. (new, subst (λ one. how one new) (same_Some tvm old (live ∙ is)) did, refl)

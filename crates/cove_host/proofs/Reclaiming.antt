@@ -1,5 +1,5 @@
 -- The outcome of a reclaim.
-use Rattle.std.proofs.Common.{◌≡◌, ℕ, ◌+◌, ◌/◌, ◌<◌, ◌≤◌, List, [], ◌∷◌, get_or, Ok, true, refl, sym, subst, inr, arith}
+use Rattle.std.proofs.Common.{◌≡◌, ℕ, ◌+◌, ◌/◌, ◌<◌, ◌≤◌, List, [], ◌∷◌, get_or, true, refl, subst, inr, arith}
 use Rattle.std.proofs.lemmas.Bool.{not-false}
 use Rattle.cove_base.proofs.StoreLemmas.{AllAllowed-weaker, get_or-fills_other}
 use Rattle.cove_model.specs.Machine.{host, count_word, AllAllowed, stored, Reclaim, Success, AllFree, WithinMemory, rule, AllowsLawful, IsFreeIn, IsLawful, every, is_free, page_at, Aligned, Check, Count, State, PageStands, answered_in, epoch_in, maps_of}
@@ -9,7 +9,6 @@ use Rattle.cove_host.proofs.Creating.{stays_within}
 use Rattle.cove_host.proofs.PassedCalls.{AllPass}
 use Rattle.cove_host.proofs.PassedChecks.{inside_passes}
 use Rattle.cove_tvm.specs.Called.{Called, IsReady}
-use Rattle.cove_host.specs.Checked.{all_checked}
 use Rattle.cove_model.proofs.LawfulProofs.{reclaim_is_lawful}
 use Rattle.cove_model.proofs.Runs.{every_at}
 use Rattle.cove_model.proofs.StandLemmas.{free_page}

@@ -1,5 +1,5 @@
 -- The checks and the outcome of a call that adds a region.
-use Rattle.std.proofs.Common.{◌≡◌, ◌↔◌, ◌-◌, ◌+◌, ◌/◌, ◌%◌, ◌^◌, ◌<◌, ◌≤◌, ◌∙◌, ℕ, zero, suc, false, List, [], ◌∷◌, ◌++◌, length, Option, Some, None, Result, Ok, Err, refl, sym, ap, subst, inl, inr, arith, nat_le, leb-false}
+use Rattle.std.proofs.Common.{◌≡◌, ◌↔◌, ◌+◌, ◌/◌, ◌%◌, ◌^◌, ◌<◌, ◌≤◌, ◌∙◌, ℕ, zero, suc, false, List, [], ◌∷◌, ◌++◌, length, Some, Result, Ok, Err, refl, sym, ap, subst, inl, inr, arith, nat_le, leb-false}
 use Rattle.std.proofs.lemmas.Bool.{or_cases}
 use Rattle.std.proofs.lemmas.Bool.Decides.{nat_tests}
 use Rattle.std.proofs.lemmas.List.{length-map}
@@ -7,16 +7,17 @@ use Rattle.std.proofs.lemmas.List.Folds.{list_any-append}
 use Rattle.std.proofs.lemmas.Option.{none-some}
 use Rattle.std.specs.List.{list_any}
 use Rattle.std.specs.Prelude.{IsTrue, OnOk, unwrap_or}
-use Rattle.cove_model.specs.Machine.{Region, REGION_LIMIT, Success, IsArea, IsBuilding, Live, NoOverlap, RoomForRegion, meets_run, Rule, rule, Aligned, Check, State, find_tvm}
+use Rattle.cove_model.specs.Machine.{Region, REGION_LIMIT, Success, IsArea, IsBuilding, Live, NoOverlap, RoomForRegion, meets_run, Rule, rule, Aligned, Check, State, find_tvm, tvm_at}
 use Rattle.cove_host.proofs.PassedCalls.{AllPass, passed_call, stands_written}
 use Rattle.cove_host.proofs.CheckedLemmas.{each_passes}
-use Rattle.cove_host.proofs.LifeTold.{both_live}
+use Rattle.cove_host.proofs.LifeTold.{both_live, live_stand}
 use Rattle.cove_tvm.specs.Called.{Called}
 use Rattle.cove_host.specs.Checked.{all_checked}
-use Rattle.cove_host.specs.MoreRegions.{AddsRegion, HasRegion, has_all_regions, meets_region}
+use Rattle.cove_host.specs.FoundTvms.{ChangesTvm, IsLiveTvm}
+use Rattle.cove_host.specs.MoreRegions.{AddsRegion, HasRegion}
 use Rattle.cove_model.specs.Tvms.{Tvm as ModelTvm, new_tvm}
 use Rattle.cove_region.proofs.StandingLemmas.{added-stand, meets-stand, outside-free}
-use Rattle.cove_region.specs.GuestMaps.{AreAll, AreMade, GuestMap, covers, has_guest, pages_from}
+use Rattle.cove_region.specs.GuestMaps.{AreAll, AreMade, GuestMap, covers, has_guest, meets as meets_area, pages_from}
 use Rattle.cove_region.specs.Standing.{StandFor, area_of}
 use Rattle.cove_region.specs.declared.kinds.AreaKind.TheVariants.{Outside, Private}
 use Rattle.cove_region.specs.declared.regions.RegionFault.{RegionFault}
@@ -24,8 +25,6 @@ use Rattle.cove_region.specs.declared.regions.RegionFault.TheVariants.{Overlap, 
 use Rattle.cove_tvm.proofs.BuiltRegions.{live_stands, region_stands}
 use Rattle.cove_tvm.specs.BuiltTvms.{with_region}
 use Rattle.cove_tvm.specs.Stands.{Stands}
-use Rattle.cove_tvm.specs.TvmLends.{with_tvm}
-use Rattle.cove_tvm.specs.TvmStands.{TvmStands}
 use Rattle.cove_tvm.specs.TvmTables.{live_at}
 use Rattle.cove_tvm.specs.declared.ground.Ground.{Ground}
 use Rattle.cove_tvm.specs.declared.machines.Tvm.{Tvm}
@@ -35,20 +34,12 @@ use Rattle.cove_tvm.specs.declared.machines.Tvm.{Tvm}
 many_told : (guests : GuestMap) (model : ModelTvm) → StandFor guests model → length guests.regions ≡ length model.regions
 many_told guests model stands = ap length stands.regions ∙ length-map model.regions area_of
 
-module _ (words : List ℕ) (G : Ground) (S : State) (t : ℕ) where
-  pub overlap_told : (first n : ℕ) (x : Option Tvm) (v : Option ModelTvm) → TvmStands G.pages G.harts words t S.seats G.files x v
-      → meets_region x first n ≡ list_any (meets_run first n) (unwrap_or v (new_tvm t)).regions
-  overlap_told first n None None stands = refl
-  overlap_told first n None (Some model) stands = absurd stands
-  overlap_told first n (Some tvm) None stands = absurd stands
-  overlap_told first n (Some tvm) (Some model) stands = meets-stand tvm.regions model stands.fields.regions first n
+module _ {words : List ℕ} {S : State} {t : ℕ} {tvm : Tvm} (one : IsLiveTvm words S t tvm) where
+  pub overlap_told : (first n : ℕ) → list_any (meets_area (pages_from first n)) tvm.regions.regions ≡ list_any (meets_run first n) (tvm_at S t).regions
+  overlap_told first n = meets-stand tvm.regions (tvm_at S t) (live_stand one).fields.regions first n
 
-  pub room_told : (x : Option Tvm) (v : Option ModelTvm) → TvmStands G.pages G.harts words t S.seats G.files x v
-      → has_all_regions x ≡ nat_le REGION_LIMIT (length (unwrap_or v (new_tvm t)).regions)
-  room_told None None stands = refl
-  room_told None (Some model) stands = absurd stands
-  room_told (Some tvm) None stands = absurd stands
-  room_told (Some tvm) (Some model) stands = ap (nat_le REGION_LIMIT) (many_told tvm.regions model stands.fields.regions)
+  pub room_told : nat_le REGION_LIMIT (length tvm.regions.regions) ≡ nat_le REGION_LIMIT (length (tvm_at S t).regions)
+  room_told = ap (nat_le REGION_LIMIT) (many_told tvm.regions (tvm_at S t) (live_stand one).fields.regions)
 
 -- a region is added where it overlaps none and there is room
 pub region_added : (result : Result (Unit {0}) RegionFault) (first n : ℕ) (old new : GuestMap)
@@ -114,9 +105,7 @@ module _ (words : List ℕ) (G H : Ground) (hart gpa len : ℕ) where
   by_rule t S = rule S hart (Region t gpa len)
 
   abbrev Adds : (t : ℕ) → Type 0
-  Adds t =
-      (old : Tvm) → live_at G.tvms t ≡ Some old
-      → (new : Tvm) × AddsRegion (gpa / 4096) (len / 4096) old new × (H ≡ record G { tvms = with_tvm G.tvms (t - 1) new })
+  Adds t = ChangesTvm t (AddsRegion (gpa / 4096) (len / 4096)) G H
 
   -- the guest pages of the regions stay within the tables
   near : (old new : GuestMap) → gpa + len ≤ 2 ^ 41 → gpa % 4096 ≡ 0 → len % 4096 ≡ 0 → new.regions ≡ old.regions ++ pages_from (gpa / 4096) (len / 4096) ∷ []

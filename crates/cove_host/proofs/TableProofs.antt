@@ -1,16 +1,16 @@
 -- The outcome of a call that gives a TVM more table pages.
-use Rattle.std.proofs.Common.{◌≡◌, ◌-◌, ◌+◌, ◌/◌, ◌≤◌, ◌∙◌, ℕ, zero, suc, List, [], ◌∷◌, get_or, length, Some, refl, sym, subst, inr, arith}
+use Rattle.std.proofs.Common.{◌≡◌, ◌+◌, ◌/◌, ◌≤◌, ◌∙◌, ℕ, zero, suc, List, [], ◌∷◌, get_or, length, Some, refl, sym, subst, inr, arith}
 use Rattle.std.proofs.lemmas.Option.{none-some, same_Some}
 use Rattle.cove_base.proofs.StoreLemmas.{AllAllowed-weaker, get_or-fills_other}
 use Rattle.cove_model.specs.Machine.{given, AllAllowed, stored, Tables, Table, Success, AllFree, Live, WithinMemory, Rule, rule, AllowsLawful, IsLawful, Aligned, Check, Count, State}
 use Rattle.cove_host.proofs.PassedCalls.{AllPass, passed_call, stands_written}
 use Rattle.cove_host.proofs.PassedChecks.{Gives, gives, may_give}
 use Rattle.cove_host.proofs.CheckedLemmas.{each_passes}
+use Rattle.cove_host.specs.FoundTvms.{ChangesTvm}
 use Rattle.cove_tvm.specs.Called.{Called, IsReady}
 use Rattle.cove_tvm.proofs.GivenTables.{tables_are_lawful, tables_fit, tables_stand}
 use Rattle.cove_tvm.specs.MoreTables.{AddsTables, tables_stores}
 use Rattle.cove_tvm.specs.Stands.{Stands}
-use Rattle.cove_tvm.specs.TvmLends.{with_tvm}
 use Rattle.cove_tvm.specs.TvmTables.{live_at}
 use Rattle.cove_tvm.specs.declared.ground.Ground.{Ground}
 use Rattle.cove_tvm.specs.declared.machines.Tvm.{Tvm}
@@ -55,9 +55,7 @@ module _ (words : List ℕ) (G : Ground) (hart base n : ℕ) (ready : IsReady wo
 
   module _ (H : Ground) where
     abbrev Adds : (t : ℕ) → Type 0
-    Adds t =
-        (old : Tvm) → live_at G.tvms t ≡ Some old
-        → (new : Tvm) × AddsTables base n old new × (H ≡ record G { tvms = with_tvm G.tvms (t - 1) new })
+    Adds t = ChangesTvm t (AddsTables base n) G H
 
     after : (t : ℕ) (S : State) (stands : Stands words G S) → Gives words G S t base n → Adds t
         → Stands (stored words (tables_stores t base n)) H (rule S hart (Tables t base n)).outcome.state

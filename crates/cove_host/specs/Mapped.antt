@@ -1,11 +1,8 @@
 -- A run of guest pages that a call maps.
-use Rattle.std.specs.Prelude.{◌≡◌, ℕ, ◌-◌, Bool, List, Some}
+use Rattle.std.specs.Prelude.{◌≡◌, ℕ, Bool, List}
 use Rattle.cove_model.specs.LawfulStores.{AllowsLawful}
 use Rattle.cove_stage2.specs.MapStores.{Pages}
 use Rattle.cove_tvm.specs.MappedRuns.{AreMapped, MayMap}
-use Rattle.cove_tvm.specs.TvmLends.{with_tvm}
-use Rattle.cove_tvm.specs.TvmTables.{live_at}
-use Rattle.cove_tvm.specs.declared.ground.Ground.{Ground}
 use Rattle.cove_tvm.specs.declared.machines.Tvm.{Tvm}
 
 -- a run may be mapped for some TVM of the board, by a test that allows what is lawful for a hart
@@ -29,9 +26,3 @@ pub record MapsIn (g p n : ℕ) (shared : Bool) (words new : List ℕ) (old now 
   pub rest : now ≡ record old { pool = left }
   pub room : left.room ≡ old.pool.room
   pub mapped : MapsRun old.tables.pages old.tables.root.0 g p n n shared words old.pool.pages new left.pages
-
--- the live TVM with a number is such a one, and all else of the ground stays
-abbrev pub MapsOf : (t g p n : ℕ) (shared : Bool) (words new : List ℕ) (G H : Ground) → Type 0
-MapsOf t g p n shared words new G H =
-    (old : Tvm) → live_at G.tvms t ≡ Some old
-    → (now : Tvm) × MapsIn g p n shared words new old now × (H ≡ record G { tvms = with_tvm G.tvms (t - 1) now })

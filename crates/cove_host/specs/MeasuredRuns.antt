@@ -1,13 +1,10 @@
 -- Pages that a TVM's registers are extended by, one after another, and that its guest pages are mapped to.
-use Rattle.std.specs.Prelude.{◌≡◌, ℕ, ◌-◌, ◌*◌, ◌++◌, false, List, [], Some, map, slice_index_or}
+use Rattle.std.specs.Prelude.{◌≡◌, ℕ, ◌*◌, ◌++◌, false, List, [], map, slice_index_or}
 use Rattle.std.specs.List.{range_with_len}
 use Rattle.cove_base.specs.Measurement.{Extension, Record, registers_of}
 use Rattle.cove_host.specs.Mapped.{MapsRun}
 use Rattle.cove_model.specs.HostCalls.{page_records}
 use Rattle.cove_stage2.specs.MapStores.{Pages}
-use Rattle.cove_tvm.specs.TvmLends.{with_tvm}
-use Rattle.cove_tvm.specs.TvmTables.{live_at}
-use Rattle.cove_tvm.specs.declared.ground.Ground.{Ground}
 use Rattle.cove_tvm.specs.declared.machines.Tvm.{Tvm}
 
 -- the words of n pages from one on
@@ -29,9 +26,3 @@ pub record MeasuresIn (g p n : ℕ) (frames : List (List ℕ)) (words new : List
   pub room : left.room ≡ old.pool.room
   pub mapped : MapsRun old.tables.pages old.tables.root.0 g p n n false words old.pool.pages new left.pages
   pub extended : ExtendsBy g p n frames old.registers measured
-
--- the live TVM with a number is such a one, and all else of the ground stays
-abbrev pub MeasuresOf : (t g p n : ℕ) (words new : List ℕ) (G H : Ground) → Type 0
-MeasuresOf t g p n words new G H =
-    (old : Tvm) → live_at G.tvms t ≡ Some old
-    → (now : Tvm) × MeasuresIn g p n G.memory words new old now × (H ≡ record G { tvms = with_tvm G.tvms (t - 1) now })

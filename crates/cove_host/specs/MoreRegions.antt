@@ -1,20 +1,9 @@
--- What is found of a TVM's regions, if it is live, and what one more leaves of it.
-use Rattle.std.specs.Prelude.{◌≡◌, ◌<◌, ◌++◌, ℕ, Bool, false, [], ◌∷◌, length, nat_le, Option, Some, None}
-use Rattle.std.specs.List.{list_any}
+-- What one more region leaves of a TVM.
+use Rattle.std.specs.Prelude.{◌≡◌, ◌<◌, ◌++◌, ℕ, [], ◌∷◌, length}
 use Rattle.cove_base.specs.declared.limits.TheConstants.{REGION_LIMIT}
-use Rattle.cove_region.specs.GuestMaps.{AreAll, AreMade, GuestMap, meets, pages_from}
+use Rattle.cove_region.specs.GuestMaps.{AreAll, AreMade, GuestMap, pages_from}
 use Rattle.cove_region.specs.declared.kinds.AreaKind.TheVariants.{Outside, Private}
 use Rattle.cove_tvm.specs.declared.machines.Tvm.{Tvm}
-
--- a region has one of some guest pages
-abbrev pub meets_region : Option Tvm → (first n : ℕ) → Bool
-meets_region None first n = false
-meets_region (Some tvm) first n = list_any (meets (pages_from first n)) tvm.regions.regions
-
--- it has as many regions as it may have
-abbrev pub has_all_regions : Option Tvm → Bool
-has_all_regions None = false
-has_all_regions (Some tvm) = nat_le REGION_LIMIT (length tvm.regions.regions)
 
 -- some guest pages are one more region, and private
 pub record HasRegion (first n : ℕ) (old new : GuestMap) : Type 0 where

@@ -1,20 +1,19 @@
 //! The destruction of TVMs.
 
-ghost use Rattle.std.specs.Prelude.{◌≡◌, ◌-◌, ◌<◌, ℕ, OnOk, Some, false};
+ghost use Rattle.std.specs.Prelude.{◌≡◌, ◌<◌, ℕ, OnOk, Some, false};
 ghost use Rattle.cove_base.specs.Unchanged.{Unchanged};
 ghost use Rattle.cove_base.specs.declared.calls.HostCall.TheVariants.{Destroy};
 ghost use Rattle.cove_tvm.specs.Called.{Called, IsReady};
 ghost use Rattle.cove_host.specs.Checked.{all_checked, checked};
 ghost use Rattle.cove_host.specs.Ended.{HasEnded, MayEnd};
+ghost use Rattle.cove_host.specs.FoundTvms.{ChangesTvm};
 ghost use Rattle.cove_host.specs.HartsInside.{IsFirstInside, is_inside, is_word_of};
 ghost use Rattle.cove_model.specs.Checks.{NobodyInside};
 ghost use Rattle.cove_model.specs.HostCalls.{rule};
 ghost use Rattle.cove_model.specs.LawfulStores.{AllowsLawful};
 ghost use Rattle.cove_model.specs.States.{State};
 ghost use Rattle.cove_tvm.specs.Stands.{Stands};
-ghost use Rattle.cove_tvm.specs.TvmLends.{with_tvm};
 ghost use Rattle.cove_tvm.specs.TvmTables.{live_at};
-ghost use Rattle.cove_tvm.specs.declared.ground.Ground.{Ground};
 ghost use Rattle.cove_tvm.specs.declared.machines.Tvm.{Tvm};
 
 use crate::checks::DONE;
@@ -57,8 +56,7 @@ fn destroyable<W: Words>(w: &mut W, g: &Ground, t: u64) -> Result<(), Reply>
 // Ends the live TVM `t`.
 fn end<W: Words>(w: &mut W, g: &mut Ground, t: u64)
     requires ending { (tvm : Tvm) → live_at g.old.tvms t ≡ Some tvm → MayEnd (W.allows (W.guard w.old)) (W.words w.old) tvm }
-    ensures ended { (old : Tvm) → live_at g.old.tvms t ≡ Some old → (gone : Tvm) × HasEnded (W.words w.old) (W.words w.new) old gone
-        × (g.new ≡ record g.old { tvms = with_tvm g.old.tvms (t - 1) gone }) }
+    ensures ended { ChangesTvm t (HasEnded (W.words w.old) (W.words w.new)) g.old g.new }
     ensures guard { W.guard w.new ≡ W.guard w.old }
 {
     if let Some(tvm) = g.tvms.live_mut(t) {

@@ -1,19 +1,16 @@
 //! The finalization of TVMs.
 
-ghost use Rattle.std.specs.Prelude.{◌≡◌, ◌-◌, ◌++◌, ℕ, List, ◌∷◌, Some, replicate};
+ghost use Rattle.std.specs.Prelude.{◌≡◌, ◌++◌, ℕ, List, ◌∷◌, replicate};
 ghost use Rattle.cove_base.specs.Registers.{registers};
 ghost use Rattle.cove_base.specs.declared.calls.HostCall.TheVariants.{Finalize};
 ghost use Rattle.cove_tvm.specs.Called.{Called};
 ghost use Rattle.cove_host.specs.Checked.{all_checked};
+ghost use Rattle.cove_host.specs.FoundTvms.{ChangesTvm};
 ghost use Rattle.cove_host.specs.Finalized.{IsFinalized};
 ghost use Rattle.cove_model.specs.HostCalls.{rule};
 ghost use Rattle.cove_model.specs.States.{State};
 ghost use Rattle.cove_tvm.specs.BuiltTvms.{AreStarted};
 ghost use Rattle.cove_tvm.specs.Stands.{Stands};
-ghost use Rattle.cove_tvm.specs.TvmLends.{with_tvm};
-ghost use Rattle.cove_tvm.specs.TvmTables.{live_at};
-ghost use Rattle.cove_tvm.specs.declared.ground.Ground.{Ground};
-ghost use Rattle.cove_tvm.specs.declared.machines.Tvm.{Tvm};
 ghost use Rattle.cove_base.specs.Unchanged.{Unchanged};
 
 use crate::checks::DONE;
@@ -48,16 +45,15 @@ fn finalizable(g: &Ground, t: u64, pc: u64) -> Result<(), Reply>
     ensures told { (words : List ℕ) (hart arg : ℕ) (S : State) → Stands words g.now S
         → result ≡ all_checked (rule S hart (Finalize t pc arg)).checks }
 {
-    live(g, t)?;
-    is_building(g, t)?;
-    has_some_cpu(g, t)?;
+    let tvm = live(g, t)?;
+    is_building(tvm)?;
+    has_some_cpu(tvm)?;
     place_aligned(pc)
 }
 
 // Finalizes the live TVM `t`.
 fn finish(g: &mut Ground, t: u64, pc: u64, arg: u64)
-    ensures { (old : Tvm) → live_at g.old.tvms t ≡ Some old → (new : Tvm) × IsFinalized pc arg old new
-        × (g.new ≡ record g.old { tvms = with_tvm g.old.tvms (t - 1) new }) }
+    ensures { ChangesTvm t (IsFinalized pc arg) g.old g.new }
 {
     if let Some(tvm) = g.tvms.live_mut(t) {
         finish_tvm(tvm, pc, arg);

@@ -6,8 +6,9 @@ ghost use Rattle.cove_base.specs.declared.calls.HostCall.TheVariants.{Measured};
 ghost use Rattle.cove_base.specs.declared.limits.TheConstants.{RANGE_LIMIT};
 ghost use Rattle.cove_tvm.specs.Called.{Called, IsReady};
 ghost use Rattle.cove_host.specs.Checked.{all_checked};
+ghost use Rattle.cove_host.specs.FoundTvms.{ChangesTvm};
 ghost use Rattle.cove_host.specs.Mapped.{MayMapBy};
-ghost use Rattle.cove_host.specs.MeasuredRuns.{ExtendsBy, MeasuresIn, MeasuresOf};
+ghost use Rattle.cove_host.specs.MeasuredRuns.{ExtendsBy, MeasuresIn};
 ghost use Rattle.cove_model.specs.HostCalls.{rule};
 ghost use Rattle.cove_model.specs.LawfulStores.{AllowsLawful};
 ghost use Rattle.cove_model.specs.States.{State};
@@ -75,8 +76,8 @@ fn measurable<W: Words>(
     ensures near { OnOk result (gpa / 4096 + n ≤ 2 ^ 29) }
     ensures unchanged { Unchanged W.words W.clean W.guard w.old w.new }
 {
-    live(g, t)?;
-    is_building(g, t)?;
+    let tvm = live(g, t)?;
+    is_building(tvm)?;
     counted(n)?;
     aligned(src)?;
     aligned(dst)?;
@@ -85,7 +86,7 @@ fn measurable<W: Words>(
     inside(g, dst, n)?;
     all_host(w, g, src, n)?;
     free(w, g, dst, n)?;
-    may_map(w, g, t, gpa, n, false)
+    may_map(w, tvm, gpa, n, false)
 }
 
 // Measures `n` pages from `page` on, and maps the guest pages of the live TVM `t` from `first` on to them.
@@ -95,7 +96,7 @@ fn map_measured<W: Words>(w: &mut W, g: &mut Ground, t: u64, first: Gpn, page: P
     requires inside { page.0 + n ≤ length g.old.memory }
     requires limit { length g.old.memory < 2 ^ 32 }
     requires near { first.0 + n ≤ 2 ^ 29 }
-    ensures mapped { MeasuresOf t first.0 page.0 n (W.words w.old) (W.words w.new) g.old g.new }
+    ensures mapped { ChangesTvm t (MeasuresIn first.0 page.0 n g.old.memory (W.words w.old) (W.words w.new)) g.old g.new }
     ensures guard { W.guard w.new ≡ W.guard w.old }
 {
     if let Some(tvm) = g.tvms.live_mut(t) {

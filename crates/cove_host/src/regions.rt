@@ -1,19 +1,18 @@
 //! The regions of TVMs.
 
-ghost use Rattle.std.specs.Prelude.{◌≡◌, ◌+◌, ◌-◌, ◌/◌, ◌^◌, ◌<◌, ◌≤◌, ℕ, List, OnOk, Some};
+ghost use Rattle.std.specs.Prelude.{◌≡◌, ◌+◌, ◌/◌, ◌^◌, ◌<◌, ◌≤◌, ℕ, List, OnOk, Some};
 ghost use Rattle.cove_base.specs.Unchanged.{Unchanged};
 ghost use Rattle.cove_base.specs.declared.calls.HostCall.TheVariants.{Region};
 ghost use Rattle.cove_tvm.specs.Called.{Called};
 ghost use Rattle.cove_host.specs.Checked.{all_checked, checked};
-ghost use Rattle.cove_host.specs.MoreRegions.{AddsRegion, has_all_regions, meets_region};
+ghost use Rattle.cove_host.specs.FoundTvms.{ChangesTvm, IsLiveTvm};
+ghost use Rattle.cove_host.specs.MoreRegions.{AddsRegion};
 ghost use Rattle.cove_model.specs.Checks.{IsArea, NoOverlap, RoomForRegion};
 ghost use Rattle.cove_model.specs.HostCalls.{rule};
 ghost use Rattle.cove_model.specs.States.{State};
 ghost use Rattle.cove_tvm.specs.Stands.{Stands};
-ghost use Rattle.cove_tvm.specs.TvmLends.{with_tvm};
 ghost use Rattle.cove_tvm.specs.TvmTables.{live_at};
 ghost use Rattle.cove_tvm.specs.declared.ground.Ground.{Ground};
-ghost use Rattle.cove_tvm.specs.declared.machines.Tvm.{Tvm};
 
 use crate::checks::{DONE, aligned, check};
 use crate::lives::{is_building, live};
@@ -47,13 +46,13 @@ fn addable(g: &Ground, t: u64, gpa: u64, len: u64) -> Result<(), Reply>
         → result ≡ all_checked (rule S hart (Region t gpa len)).checks }
     ensures area { OnOk result ((0 < len / 4096) × (gpa + len ≤ 2 ^ 41)) }
 {
-    live(g, t)?;
-    is_building(g, t)?;
+    let tvm = live(g, t)?;
+    is_building(tvm)?;
     aligned(gpa)?;
     aligned(len)?;
     is_area(gpa, len)?;
-    no_overlap(g, t, gpa, len)?;
-    room_for_region(g, t)
+    no_overlap(tvm, gpa, len)?;
+    room_for_region(tvm)
 }
 
 // The region is not empty and ends within the guest addresses.
@@ -67,50 +66,30 @@ fn is_area(gpa: u64, len: u64) -> Result<(), Reply>
 }
 
 // The region meets none of the TVM's.
-fn no_overlap(g: &Ground, t: u64, gpa: u64, len: u64) -> Result<(), Reply>
+fn no_overlap(tvm: &Tvm, gpa: u64, len: u64) -> Result<(), Reply>
     requires { gpa + len ≤ 2 ^ 41 }
-    ensures told { (words : List ℕ) (S : State) → Stands words g.now S → result ≡ checked (NoOverlap S t gpa len) }
+    ensures told { (words : List ℕ) (S : State) (t : ℕ) → IsLiveTvm words S t tvm.now
+        → result ≡ checked (NoOverlap S t gpa len) }
 {
     check(
-        meets(g, t, Gpn(gpa / 4096), len / 4096),
+        tvm.regions.overlaps(Gpn(gpa / 4096), len / 4096),
         Status::InvalidAddress,
     )
 }
 
 // The TVM may have another region.
-fn room_for_region(g: &Ground, t: u64) -> Result<(), Reply>
-    ensures told { (words : List ℕ) (S : State) → Stands words g.now S → result ≡ checked (RoomForRegion S t) }
+fn room_for_region(tvm: &Tvm) -> Result<(), Reply>
+    ensures told { (words : List ℕ) (S : State) (t : ℕ) → IsLiveTvm words S t tvm.now
+        → result ≡ checked (RoomForRegion S t) }
 {
-    check(is_full(g, t), Status::Failed)
-}
-
-// Whether a region of the TVM has some of the guest pages.
-fn meets(g: &Ground, t: u64, first: Gpn, count: u64) -> bool
-    requires { first.0 + count ≤ 2 ^ 52 }
-    ensures { result ≡ meets_region (live_at g.now.tvms t) first.0 count }
-{
-    match g.tvms.live(t) {
-        Some(tvm) => tvm.regions.overlaps(first, count),
-        None => false,
-    }
-}
-
-// Whether the TVM has as many regions as it may have.
-fn is_full(g: &Ground, t: u64) -> bool
-    ensures { result ≡ has_all_regions (live_at g.now.tvms t) }
-{
-    match g.tvms.live(t) {
-        Some(tvm) => tvm.regions.is_full(),
-        None => false,
-    }
+    check(tvm.regions.is_full(), Status::Failed)
 }
 
 // Adds a region to the live TVM `t`.
 fn add(g: &mut Ground, t: u64, first: Gpn, count: u64)
     requires some { 0 < count }
     requires fits { first.0 + count ≤ 2 ^ 52 }
-    ensures { (old : Tvm) → live_at g.old.tvms t ≡ Some old → (new : Tvm) × AddsRegion first.0 count old new
-        × (g.new ≡ record g.old { tvms = with_tvm g.old.tvms (t - 1) new }) }
+    ensures { ChangesTvm t (AddsRegion first.0 count) g.old g.new }
 {
     if let Some(tvm) = g.tvms.live_mut(t) {
         add_to(tvm, first, count);

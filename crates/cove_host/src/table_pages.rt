@@ -1,19 +1,18 @@
 //! More table pages for TVMs.
 
-ghost use Rattle.std.specs.Prelude.{◌≡◌, ◌+◌, ◌-◌, ◌/◌, ◌^◌, ◌<◌, ◌≤◌, ◌++◌, ℕ, OnOk, Some, length};
+ghost use Rattle.std.specs.Prelude.{◌≡◌, ◌+◌, ◌/◌, ◌^◌, ◌<◌, ◌≤◌, ◌++◌, ℕ, OnOk, Some, length};
 ghost use Rattle.std.specs.List.{range_with_len};
 ghost use Rattle.cove_base.specs.Unchanged.{Unchanged};
 ghost use Rattle.cove_base.specs.declared.calls.HostCall.TheVariants.{Tables};
 ghost use Rattle.cove_tvm.specs.Called.{Called, IsReady};
 ghost use Rattle.cove_host.specs.Checked.{all_checked};
+ghost use Rattle.cove_host.specs.FoundTvms.{ChangesTvm};
 ghost use Rattle.cove_model.specs.HostCalls.{rule};
 ghost use Rattle.cove_model.specs.LawfulStores.{AllowsLawful};
 ghost use Rattle.cove_model.specs.States.{State};
 ghost use Rattle.cove_tvm.specs.MoreTables.{AddsTables};
 ghost use Rattle.cove_tvm.specs.Stands.{Stands};
-ghost use Rattle.cove_tvm.specs.TvmLends.{with_tvm};
 ghost use Rattle.cove_tvm.specs.TvmTables.{live_at};
-ghost use Rattle.cove_tvm.specs.declared.ground.Ground.{Ground};
 ghost use Rattle.cove_tvm.specs.declared.machines.Tvm.{Tvm};
 
 use crate::checks::{DONE, aligned, free, inside};
@@ -68,8 +67,7 @@ fn addable<W: Words>(w: &mut W, g: &Ground, t: u64, base: u64, n: u64) -> Result
 fn add(g: &mut Ground, t: u64, base: u64, n: u32)
     requires room { (tvm : Tvm) → live_at g.old.tvms t ≡ Some tvm → length tvm.pool.pages + n ≤ tvm.pool.room }
     requires fits { base / 4096 + n < 2 ^ 32 }
-    ensures { (old : Tvm) → live_at g.old.tvms t ≡ Some old → (new : Tvm) × AddsTables base n old new
-        × (g.new ≡ record g.old { tvms = with_tvm g.old.tvms (t - 1) new }) }
+    ensures { ChangesTvm t (AddsTables base n) g.old g.new }
 {
     if let Some(tvm) = g.tvms.live_mut(t) {
         add_to(tvm, base, n);

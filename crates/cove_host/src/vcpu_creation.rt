@@ -1,20 +1,17 @@
 //! The creation of vCPUs.
 
-ghost use Rattle.std.specs.Prelude.{◌≡◌, ◌-◌, ◌/◌, ◌<◌, ℕ, OnOk, Some};
+ghost use Rattle.std.specs.Prelude.{◌≡◌, ◌<◌, ℕ, OnOk};
 ghost use Rattle.cove_base.specs.Unchanged.{Unchanged};
 ghost use Rattle.cove_base.specs.declared.calls.HostCall.TheVariants.{Vcpu};
 ghost use Rattle.cove_base.specs.declared.limits.TheConstants.{VCPU_LIMIT};
 ghost use Rattle.cove_tvm.specs.Called.{Called, IsReady};
 ghost use Rattle.cove_host.specs.Checked.{all_checked};
+ghost use Rattle.cove_host.specs.FoundTvms.{ChangesTvm};
 ghost use Rattle.cove_model.specs.HostCalls.{rule};
 ghost use Rattle.cove_model.specs.LawfulStores.{AllowsLawful};
 ghost use Rattle.cove_model.specs.States.{State};
 ghost use Rattle.cove_tvm.specs.NewVcpus.{AddsCpu, IsNewCpu};
 ghost use Rattle.cove_tvm.specs.Stands.{Stands};
-ghost use Rattle.cove_tvm.specs.TvmLends.{with_tvm};
-ghost use Rattle.cove_tvm.specs.TvmTables.{live_at};
-ghost use Rattle.cove_tvm.specs.declared.ground.Ground.{Ground};
-ghost use Rattle.cove_tvm.specs.declared.machines.Tvm.{Tvm};
 
 use crate::checks::{DONE, aligned, free, inside};
 use crate::lives::{cpu_number, is_building, live, no_cpu_yet};
@@ -56,10 +53,10 @@ fn addable<W: Words>(w: &mut W, g: &Ground, t: u64, v: u64, state: u64) -> Resul
     ensures number { OnOk result (v < VCPU_LIMIT) }
     ensures unchanged { Unchanged W.words W.clean W.guard w.old w.new }
 {
-    live(g, t)?;
-    is_building(g, t)?;
+    let tvm = live(g, t)?;
+    is_building(tvm)?;
     cpu_number(v)?;
-    no_cpu_yet(g, t, v)?;
+    no_cpu_yet(tvm, v)?;
     aligned(state)?;
     inside(g, state, 1)?;
     free(w, g, state, 1)
@@ -68,8 +65,7 @@ fn addable<W: Words>(w: &mut W, g: &Ground, t: u64, v: u64, state: u64) -> Resul
 // Adds a vCPU to the live TVM `t`.
 fn add(g: &mut Ground, t: u64, v: u64, page: Page)
     requires { v < VCPU_LIMIT }
-    ensures { (old : Tvm) → live_at g.old.tvms t ≡ Some old → (new : Tvm) × AddsCpu v page.0 old new
-        × (g.new ≡ record g.old { tvms = with_tvm g.old.tvms (t - 1) new }) }
+    ensures { ChangesTvm t (AddsCpu v page.0) g.old g.new }
 {
     if let Some(tvm) = g.tvms.live_mut(t) {
         add_to(tvm, v, page);

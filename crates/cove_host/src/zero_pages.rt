@@ -1,23 +1,16 @@
 //! Pages of zeros for a TVM that is finalized.
 
-ghost use Rattle.std.specs.Prelude.{◌≡◌, ◌+◌, ◌/◌, ◌^◌, ◌<◌, ◌≤◌, ℕ, OnOk};
-ghost use Rattle.cove_base.specs.Unchanged.{Unchanged};
+ghost use Rattle.std.specs.Prelude.{◌≡◌, ◌<◌};
 ghost use Rattle.cove_base.specs.declared.calls.HostCall.TheVariants.{Zero};
-ghost use Rattle.cove_base.specs.declared.limits.TheConstants.{RANGE_LIMIT};
 ghost use Rattle.cove_tvm.specs.Called.{Called, IsReady};
-ghost use Rattle.cove_host.specs.Checked.{all_checked};
 ghost use Rattle.cove_model.specs.HostCalls.{rule};
 ghost use Rattle.cove_model.specs.LawfulStores.{AllowsLawful};
-ghost use Rattle.cove_model.specs.States.{State};
-ghost use Rattle.cove_tvm.specs.Stands.{Stands};
 
-use crate::checks::{DONE, aligned, free, inside};
+use crate::checks::DONE;
 use crate::frames::{give_zeros, zero_all};
-use crate::lives::{is_runnable, live};
-use crate::mapping::{map_pages, may_map};
+use crate::mapping::{map_pages, mappable};
 use crate::pages::page_of;
-use crate::runs::counted;
-use cove_base::{Gpn, HartId, RANGE_LIMIT, Reply, TvmId, Words};
+use cove_base::{Gpn, HartId, Reply, TvmId, Words};
 use cove_tvm::Ground;
 
 /// Gives `n` free pages from the byte address `base` on to a TVM, filled with zeros, and maps its guest pages from `gpa` on to
@@ -37,7 +30,7 @@ pub fn add_zero_pages<W: Words>(
     ensures called { Called h.0 (λ S. rule S h.0 (Zero t base n gpa)) (W.words w.old) (W.words w.new) g.old g.new result }
     ensures guard { W.guard w.new ≡ W.guard w.old }
 {
-    match zeroable(w, g, t, base, n, gpa) {
+    match mappable(w, g, t, base, n, gpa, false) {
         Err(reply) => reply,
         Ok(()) => {
             let count = n as u32;
@@ -47,31 +40,4 @@ pub fn add_zero_pages<W: Words>(
             DONE
         }
     }
-}
-
-// The checks of the call, in the order of its rule.
-fn zeroable<W: Words>(
-    w: &mut W,
-    g: &Ground,
-    t: u64,
-    base: u64,
-    n: u64,
-    gpa: u64,
-) -> Result<(), Reply>
-    requires ready { IsReady (W.words w.old) g.now }
-    ensures told { (hart : ℕ) (S : State) → Stands (W.words w.old) g.now S
-        → result ≡ all_checked (rule S hart (Zero t base n gpa)).checks }
-    ensures within { OnOk result ((1 ≤ n) × (n ≤ RANGE_LIMIT)) }
-    ensures inside { OnOk result (base / 4096 + n ≤ g.now.pages) }
-    ensures near { OnOk result (gpa / 4096 + n ≤ 2 ^ 29) }
-    ensures unchanged { Unchanged W.words W.clean W.guard w.old w.new }
-{
-    live(g, t)?;
-    is_runnable(g, t)?;
-    counted(n)?;
-    aligned(base)?;
-    aligned(gpa)?;
-    inside(g, base, n)?;
-    free(w, g, base, n)?;
-    may_map(w, g, t, gpa, n, false)
 }

@@ -1,11 +1,6 @@
-use Rattle.std.proofs.Common.{◌∙◌, refl, subst}
-use Rattle.std.proofs.lemmas.Option.{same_Some}
+use Rattle.cove_host.proofs.LifeTold.{changed}
 use Rattle.cove_tvm.specs.NewVcpus.{AddsCpu}
 use Rattle.cove_host.proofs.vcpu_creation.add.Goals as goal
 
 pub returns-in-Some : goal.returns-in-Some
-returns-in-Some c = λ old live. (
-  c.add_to.new.tvm,
-  subst (λ one. AddsCpu c.args.v c.args.page.0 one c.add_to.new.tvm) (same_Some c.in-Some.tvm.now old (c.in-Some.ensures.value ∙ live)) c.add_to.ensures,
-  refl,
-)
+returns-in-Some c = changed c.args.t c.args.g.now (AddsCpu c.args.v c.args.page.0) _ _ c.in-Some.ensures.value c.add_to.ensures

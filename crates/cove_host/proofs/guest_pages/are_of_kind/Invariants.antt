@@ -1,7 +1,7 @@
 use Rattle.std.proofs.Common.{◌≡◌}
 use Rattle.cove_host.specs.GuestRuns.{EachGuest}
 use Rattle.cove_region.specs.GuestMaps.{kind_of}
-use Rattle.cove_host.proofs.guest_pages.all_of_kind.Given as goal
+use Rattle.cove_host.proofs.guest_pages.are_of_kind.Given as goal
 
 -- the guest pages so far are of the kind
 abbrev pub invariant-loop-i : goal.invariant-loop-i

@@ -2,7 +2,7 @@ use Rattle.std.proofs.Common.{◌≡◌}
 use Rattle.cove_base.specs.Tables.{leaf_at}
 use Rattle.cove_base.specs.Unchanged.{Unchanged}
 use Rattle.cove_host.specs.GuestRuns.{EachGuest}
-use Rattle.cove_host.proofs.guest_pages.all_absent.Given as goal
+use Rattle.cove_host.proofs.guest_pages.are_absent.Given as goal
 
 -- no guest page so far has a leaf
 abbrev pub invariant-loop-i : goal.invariant-loop-i

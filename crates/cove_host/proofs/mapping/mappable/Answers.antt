@@ -1,0 +1,59 @@
+use Rattle.std.proofs.Common.{◌∙◌, sym}
+use Rattle.cove_host.proofs.CheckedLemmas.{front_passes, stops}
+use Rattle.cove_host.specs.GuestRuns.{owned_as, run_checks}
+use Rattle.cove_host.proofs.mapping.mappable.Goals as goal
+
+pub returns-in_err-tvm-clause-told : goal.returns-in_err-tvm-clause-told
+returns-in_err-tvm-clause-told g c = λ S stands.
+    stops 0 (run_checks (owned_as c.args.shared) c.args.shared S c.args.t c.args.base c.args.n c.args.gpa) c.from_residual.ensures.1
+    tt (c.in_err-tvm.ensures.told _ S stands)
+
+pub returns-in_err-is_runnable-clause-told : goal.returns-in_err-is_runnable-clause-told
+returns-in_err-is_runnable-clause-told g c = λ S stands.
+    let one = c.in_ok-tvm.ensures.found _ S stands in
+    stops 1 (run_checks (owned_as c.args.shared) c.args.shared S c.args.t c.args.base c.args.n c.args.gpa) c.from_residual-in_err-is_runnable.ensures.1
+    (c.in_ok-tvm.ensures.told _ S stands, tt) (c.in_err-is_runnable.ensures.told _ S c.args.t one)
+
+pub returns-in_err-counted-clause-told : goal.returns-in_err-counted-clause-told
+returns-in_err-counted-clause-told g c = λ S stands.
+    let one = c.in_ok-tvm.ensures.found _ S stands in
+    stops 2 (run_checks (owned_as c.args.shared) c.args.shared S c.args.t c.args.base c.args.n c.args.gpa) c.from_residual-in_err-counted.ensures.1
+    (c.in_ok-tvm.ensures.told _ S stands, (c.in_ok-is_runnable.ensures.told _ S c.args.t one, tt)) c.in_err-counted.ensures.told
+
+pub returns-in_err-aligned-clause-told : goal.returns-in_err-aligned-clause-told
+returns-in_err-aligned-clause-told g c = λ S stands.
+    let one = c.in_ok-tvm.ensures.found _ S stands in
+    stops 3 (run_checks (owned_as c.args.shared) c.args.shared S c.args.t c.args.base c.args.n c.args.gpa) c.from_residual-in_err-aligned.ensures.1
+    (c.in_ok-tvm.ensures.told _ S stands, (c.in_ok-is_runnable.ensures.told _ S c.args.t one, (c.in_ok-counted.ensures.told, tt))) c.in_err-aligned.ensures
+
+pub returns-in_err-aligned-2-clause-told : goal.returns-in_err-aligned-2-clause-told
+returns-in_err-aligned-2-clause-told g c = λ S stands.
+    let one = c.in_ok-tvm.ensures.found _ S stands in
+    stops 4 (run_checks (owned_as c.args.shared) c.args.shared S c.args.t c.args.base c.args.n c.args.gpa) c.from_residual-in_err-aligned-2.ensures.1
+    (c.in_ok-tvm.ensures.told _ S stands, (c.in_ok-is_runnable.ensures.told _ S c.args.t one, (c.in_ok-counted.ensures.told, (c.in_ok-aligned.ensures, tt)))) c.in_err-aligned-2.ensures
+
+pub returns-in_err-inside-clause-told : goal.returns-in_err-inside-clause-told
+returns-in_err-inside-clause-told g c = λ S stands.
+    let one = c.in_ok-tvm.ensures.found _ S stands in
+    stops 5 (run_checks (owned_as c.args.shared) c.args.shared S c.args.t c.args.base c.args.n c.args.gpa) c.from_residual-in_err-inside.ensures.1
+    (c.in_ok-tvm.ensures.told _ S stands, (c.in_ok-is_runnable.ensures.told _ S c.args.t one, (c.in_ok-counted.ensures.told, (c.in_ok-aligned.ensures, (c.in_ok-aligned-2.ensures, tt))))) (c.in_err-inside.ensures.told _ S stands)
+
+pub returns-in_err-owned-clause-told : goal.returns-in_err-owned-clause-told
+returns-in_err-owned-clause-told g c = λ S stands.
+    let one = c.in_ok-tvm.ensures.found _ S stands in
+    stops 6 (run_checks (owned_as c.args.shared) c.args.shared S c.args.t c.args.base c.args.n c.args.gpa) c.from_residual-in_err-owned.ensures.1
+    (c.in_ok-tvm.ensures.told _ S stands, (c.in_ok-is_runnable.ensures.told _ S c.args.t one, (c.in_ok-counted.ensures.told, (c.in_ok-aligned.ensures, (c.in_ok-aligned-2.ensures, (c.in_ok-inside.ensures.told _ S stands, tt)))))) (c.in_err-owned.ensures.told S stands)
+
+pub returns-clause-told : goal.returns-clause-told
+returns-clause-told g c = λ S stands.
+    let one = c.in_ok-tvm.ensures.found _ S stands in
+    c.may_map.ensures.told S c.args.t (rw c.in_ok-owned.ensures.unchanged.words one)
+    ∙ sym (front_passes 7 (run_checks (owned_as c.args.shared) c.args.shared S c.args.t c.args.base c.args.n c.args.gpa)
+    (c.in_ok-tvm.ensures.told _ S stands, (c.in_ok-is_runnable.ensures.told _ S c.args.t one, (c.in_ok-counted.ensures.told, (c.in_ok-aligned.ensures, (c.in_ok-aligned-2.ensures, (c.in_ok-inside.ensures.told _ S stands, (c.in_ok-owned.ensures.told S stands, tt))))))))
+
+pub may_map-requires-clause-live : goal.may_map-requires-clause-live
+may_map-requires-clause-live g c = record {
+  state = c.requires.ready.state;
+  number = c.args.t;
+  live = rw c.in_ok-owned.ensures.unchanged.words (c.in_ok-tvm.ensures.found _ _ c.requires.ready.stands);
+}
