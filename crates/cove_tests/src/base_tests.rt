@@ -1,4 +1,7 @@
-use cove_base::{Bytes, Entry, Event, HartId, History, HostCall, Line, Lines, Quote, ScriptLine};
+use cove_base::{
+    Bytes, CompactEvent, Entry, Event, HartId, History, HostCall, LentEntry, Line, Lines, Quote,
+    ScriptLine,
+};
 use std::test::Fail;
 
 #[test]
