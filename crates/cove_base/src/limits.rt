@@ -1,7 +1,7 @@
 ghost use Rattle.std.specs.Prelude.{◌≡◌};
 
 /// Pages of a board, at most; each board has one at least.
-pub const PAGE_LIMIT: u32 = 1024;
+pub const PAGE_LIMIT: u32 = 4096;
 
 /// Harts of a board, at most; each board has one at least.
 pub const HART_LIMIT: u8 = 8;
@@ -10,7 +10,7 @@ pub const HART_LIMIT: u8 = 8;
 pub const FILE_LIMIT: u8 = 7;
 
 /// TVMs that a monitor creates in its life, at most; they are numbered from 1.
-pub const TVM_LIMIT: u32 = 16;
+pub const TVM_LIMIT: u32 = 64;
 
 /// vCPUs of a TVM, at most; they are numbered from 0.
 pub const VCPU_LIMIT: u64 = 4;
@@ -28,7 +28,7 @@ pub const RANGE_LIMIT: u64 = 16;
 pub const FUEL_LIMIT: u64 = 4096;
 
 /// Entries of a history, at most.
-pub const ENTRY_LIMIT: u32 = 100_000;
+pub const ENTRY_LIMIT: u32 = 200_000;
 
 /// Bytes of a script's text, at most.
 pub const SCRIPT_LIMIT: usize = 1_048_576;
@@ -44,11 +44,11 @@ pub const PHASE_LIMIT: u32 = 1_048_576;
 
 /// The law of the limits, which runs no code: the number that each of them is.
 pub fn limits_law()
-    ensures boards { (PAGE_LIMIT ≡ 1024) × (HART_LIMIT ≡ 8) × (FILE_LIMIT ≡ 7) }
-    ensures tvms { (TVM_LIMIT ≡ 16) × (VCPU_LIMIT ≡ 4) }
+    ensures boards { (PAGE_LIMIT ≡ 4096) × (HART_LIMIT ≡ 8) × (FILE_LIMIT ≡ 7) }
+    ensures tvms { (TVM_LIMIT ≡ 64) × (VCPU_LIMIT ≡ 4) }
     ensures guests { (REGION_LIMIT ≡ 8) × (SHARED_RUN_LIMIT ≡ 16) }
     ensures calls { (RANGE_LIMIT ≡ 16) × (FUEL_LIMIT ≡ 4096) }
     ensures bytes { (SCRIPT_LIMIT ≡ 1048576) × (KEY_LIMIT ≡ 128) × (QUOTE_LIMIT ≡ 512) }
     ensures phases { PHASE_LIMIT ≡ 1048576 }
-    ensures entries { ENTRY_LIMIT ≡ 100000 }
+    ensures entries { ENTRY_LIMIT ≡ 200000 }
 {}
