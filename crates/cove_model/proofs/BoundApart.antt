@@ -3,7 +3,7 @@ use Rattle.std.proofs.Common.{◌≡◌, ℕ, ◌+◌, Bool, true, false, cond, 
 use Rattle.std.proofs.lemmas.Bool.{cases_eq, or_cases}
 use Rattle.std.proofs.lemmas.List.{map-append}
 use Rattle.std.proofs.lemmas.Option.{none-some, same_Some}
-use Rattle.cove_model.specs.Machine.{ScriptValue, HostCall, Entry, Event, after, rule, started, alter, at, dropped, left_unbinding, rebound, AreBoundApart, AreDistinct, BoundFile, cpus_of, bound_file_in, bound_file_of, Owner, has, Seat, State, new_cpu, after_event, done, line_ended, Cpu, Tvm, new_tvm}
+use Rattle.cove_model.specs.Machine.{ScriptValue, HostCall, Entry, Event, after, rule, started, alter, at, dropped, left_unbinding, rebound, AreBoundApart, AreDistinct, BoundFile, cpus_of, bound_file_in, bound_file_of, Owner, has, Seat, State, board_in, new_cpu, after_event, done, line_ended, Cpu, Tvm, created, new_tvm}
 use Rattle.cove_base.specs.declared.events.Exit.{Exit}
 use Rattle.cove_model.proofs.AtTheEnd.{after_push, from_end}
 use Rattle.cove_model.proofs.BoundPlaces.{place_altered, place_mapped, places_kept}
@@ -174,10 +174,10 @@ differ_one Calm S pages h xs ys u (Alters t how e numbers each) d = subst (λ l.
 
 -- a list of TVMs in which those that are found were there, or are new
 abbrev Comes : (xs ys : List Tvm) → Type 0
-Comes xs ys = (u : ℕ) (now : Tvm) → at (λ k. k.number) u ys ≡ Some now → (at (λ k. k.number) u xs ≡ Some now) ⊎ (now ≡ new_tvm u)
+Comes xs ys = (u : ℕ) (now : Tvm) → at (λ k. k.number) u ys ≡ Some now → (at (λ k. k.number) u xs ≡ Some now) ⊎ (now.cpus ≡ [])
 
-comes_grown : (S : State) → Comes S.tvms (S.tvms ++ new_tvm (S.made + 1) ∷ [])
-comes_grown S u now found = ⊎_elim inl (λ new. inr (new.1.0 ∙ ap new_tvm new.1.1)) (found_last u S.tvms (new_tvm (S.made + 1)) now found)
+comes_grown : (S : State) → Comes S.tvms (S.tvms ++ created (S.made + 1) (board_in S) ∷ [])
+comes_grown S u now found = ⊎_elim inl (λ new. inr (ap (λ (k : Tvm). k.cpus) new.1.0)) (found_last u S.tvms (created (S.made + 1) (board_in S)) now found)
 
 comes_lost : (t : ℕ) (xs : List Tvm) → Comes xs (dropped (λ k. eqb k.number t) xs)
 comes_lost t xs u now found = inl (found_kept t u xs now found)
@@ -189,7 +189,7 @@ places_come S xs ys comes = AllKeep (λ u w p e. go u w p (at (λ (k : Tvm). k.n
     go u w p None q e = absurd (none-some p e)
     go u w p (Some now) q e = ⊎_elim
         (λ old. ap (λ o. place_at (unwrap_or o (new_tvm u)).cpus w) old ∙ e)
-        (λ new. absurd (none-some p (ap (λ (x : Tvm). place_at x.cpus w) (sym new) ∙ e)))
+        (λ new. absurd (none-some p (ap (λ cpus. place_at cpus w) (sym new) ∙ e)))
         (comes u now q)
 
 differ_come : (xs ys : List Tvm) (u : ℕ) → Comes xs ys → Differ xs u → Differ ys u
@@ -199,7 +199,7 @@ differ_come xs ys u comes d = go (at (λ (k : Tvm). k.number) u ys) refl
     go None q = tt
     go (Some now) q = ⊎_elim
         (λ old. subst (λ (o : Option Tvm). AreDistinct (cpus_of (unwrap_or o (new_tvm u)))) old d)
-        (λ new. subst (λ (x : Tvm). AreDistinct (cpus_of x)) (sym new) tt)
+        (λ new. subst (λ cpus. AreDistinct (map (λ (c : Cpu). c.number) cpus)) (sym new) tt)
         (comes u now q)
 
 binds_tvms : (Calm : Type 0) (S T : State) (h : ℕ) → TvmsChange Calm S T h → Rebindings S S.tvms T.tvms

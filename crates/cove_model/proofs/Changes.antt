@@ -7,8 +7,8 @@ use Rattle.std.proofs.lemmas.Option.{none-some, same_Some}
 use Rattle.std.proofs.lemmas.List.{length-replicate, map-append}
 use Rattle.std.proofs.lemmas.List.FromFn.{length-map-range_with_len}
 use Rattle.cove_base.specs.Ranges.{is_outside}
-use Rattle.cove_base.specs.Measurement.{Record, FinalizeRecord}
-use Rattle.cove_model.specs.Machine.{HostCall, Convert, Create, Region, Tables, Measured, Finalize, Zero, Shared, Run, Invalidate, TvmFence, Validate, Remove, Destroy, Bind, Unbind, Unbound, Inject, is_at, is_mapped_by, remembered, is_among, page_run, page_records, rule, started, page_words_from, alter, at, dropped, blocked_standing, fenced_standing, fenced_unbinding, is_fenced, left_unbinding, mapping_of, may_follow, own_mappings, rebound, restood, shared_mappings, unblocked_standing, AreDistinct, BoundFile, guests_of, bound_file_in, bound_file_of, Owner, every, has, is_free, is_host, page_at, without, words_of, zeros, freed, IsSeated, IsStill, IsHeldWithin, IsSound, IsSoundMapping, IsSoundTvm, Seat, State, find_cpu, find_tvm, harts_inside, new_cpu, on_cpu, tvm_at, left_by, Begun, Binding, Mapping, Standing, Unbinding, Cpu, Tvm, new_tvm}
+use Rattle.cove_base.specs.Measurement.{Record, VcpuRecord, FinalizeRecord}
+use Rattle.cove_model.specs.Machine.{HostCall, Convert, Create, Region, Tables, Measured, Finalize, Zero, Shared, Run, Invalidate, TvmFence, Validate, Remove, Destroy, Bind, Unbind, Unbound, Inject, is_at, is_mapped_by, remembered, is_among, page_run, page_records, rule, started, page_words_from, alter, at, dropped, blocked_standing, fenced_standing, fenced_unbinding, is_fenced, left_unbinding, mapping_of, may_follow, own_mappings, rebound, restood, shared_mappings, unblocked_standing, AreDistinct, BoundFile, guests_of, bound_file_in, bound_file_of, Owner, every, has, is_free, is_host, page_at, without, words_of, zeros, freed, IsSeated, IsStill, IsHeldWithin, IsSound, IsSoundMapping, IsSoundTvm, Seat, State, board_in, find_cpu, find_tvm, harts_inside, new_cpu, on_cpu, tvm_at, left_by, Begun, Binding, Mapping, Standing, Unbinding, Cpu, Tvm, created, new_tvm}
 use Rattle.cove_base.specs.declared.calls.HostCall.TheVariants.{Vcpu}
 use Rattle.cove_base.specs.declared.events.Exit.{Exit}
 use Rattle.cove_model.proofs.CheckedRuns.{all_hosts, host_words, length_words, memory_given, not_false, zeros_all}
@@ -20,14 +20,14 @@ use Rattle.cove_model.proofs.Members.{has_with}
 use Rattle.cove_model.proofs.Moves.{none_left, outcome_state}
 use Rattle.cove_model.proofs.Passing.{Passed}
 use Rattle.cove_model.proofs.SoundTvms.{AllSound, blocked_sound, fenced_sound, own_sound, shared_sound}
-use Rattle.cove_model.specs.Measured.{IsPage}
+use Rattle.cove_model.specs.Measured.{IsPart}
 
 -- ---- what happens to a TVM
 
 -- to its records, and whether it runs
 pub data Measures (Found : Type 0) (tvm now : Tvm) : Type 0 where
   Unmeasured : now.runnable ≡ tvm.runnable → now.records ≡ tvm.records → Measures Found tvm now
-  Pages : (more : List Record) → (Found → tvm.runnable ≡ false) → now.runnable ≡ tvm.runnable → now.records ≡ tvm.records ++ more → AllByRecursion IsPage more → Measures Found tvm now
+  Parts : (more : List Record) → (Found → tvm.runnable ≡ false) → now.runnable ≡ tvm.runnable → now.records ≡ tvm.records ++ more → AllByRecursion IsPart more → Measures Found tvm now
   Finalizes : (pc arg : ℕ) → (Found → tvm.runnable ≡ false) → now.runnable ≡ true → now.records ≡ tvm.records ++ FinalizeRecord pc arg ∷ [] → Measures Found tvm now
 
 -- To its mappings: they stay, or more come, some stand otherwise, the words of one change, or some go. Those that stand
@@ -95,7 +95,7 @@ pub data TvmsChange (Calm : Type 0) (S T : State) (h : ℕ) : Type 0 where
   Once : T.made ≡ S.made → OneTvm Calm S T.pages h S.tvms T.tvms → TvmsChange Calm S T h
   Twice : T.made ≡ S.made → (mid : List Tvm) → OneTvm Calm S T.pages h S.tvms mid → OneTvm Calm S T.pages h mid T.tvms → ((u w : ℕ) → place_among T.tvms u w ≡ place_among mid u w)
       → TvmsChange Calm S T h
-  Grows : T.made ≡ S.made + 1 → T.tvms ≡ S.tvms ++ new_tvm (S.made + 1) ∷ [] → TvmsChange Calm S T h
+  Grows : T.made ≡ S.made + 1 → T.tvms ≡ S.tvms ++ created (S.made + 1) (board_in S) ∷ [] → TvmsChange Calm S T h
   Loses : (t : ℕ) → T.made ≡ S.made → T.tvms ≡ dropped (λ k. eqb k.number t) S.tvms → T.pages ≡ map (freed t) S.pages → harts_inside S t ≡ [] → (Calm → ⊥)
       → TvmsChange Calm S T h
 
@@ -134,7 +134,7 @@ stays S T h made tvms = Once made (NoTvm tvms)
 building_found : (S : State) (t : ℕ) (tvm : Tvm) → find_tvm S t ≡ Some tvm → (tvm_at S t).runnable ≡ false → tvm.runnable ≡ false
 building_found S t tvm live e = ap (λ (o : Option Tvm). (unwrap_or o (new_tvm t)).runnable) (sym live) ∙ e
 
-pages_recorded : (gpa : ℕ) (contents : List (List ℕ)) → AllByRecursion IsPage (page_records gpa contents)
+pages_recorded : (gpa : ℕ) (contents : List (List ℕ)) → AllByRecursion IsPart (page_records gpa contents)
 pages_recorded gpa [] = tt
 pages_recorded gpa (words ∷ rest) = (tt, pages_recorded (gpa + 4096) rest)
 
@@ -244,7 +244,7 @@ change_call S h (Measured t src dst n gpa) ok =
     let new = own_mappings (gpa / 4096) (dst / 4096) contents in
     let runs = measured_passed S h t src dst n gpa ok in
     alters S T h t _ refl refl (λ tvm. refl) (λ tvm. record {
-      measures = Pages (page_records gpa contents) (λ live. building_found S t tvm live runs.building) refl refl (pages_recorded gpa contents);
+      measures = Parts (page_records gpa contents) (λ live. building_found S t tvm live runs.building) refl refl (pages_recorded gpa contents);
       maps = Adds new refl
           (λ live. mapped_apart S t tvm gpa n new live runs.unmapped
           (pages_own (gpa / 4096) (dst / 4096) contents ∙ ap (range_with_len (gpa / 4096)) (length-map-range_with_len (λ p. words_of (page_at S.pages p)) (src / 4096) n)))
@@ -255,8 +255,11 @@ change_call S h (Measured t src dst n gpa) ok =
     })
 change_call S h (Vcpu t v state) ok =
     let T = outcome_state S h (Vcpu t v state) in
-    alters S T h t _ refl refl (λ tvm. refl) (λ tvm. recpus ⊥ (find_tvm S t ≡ Some tvm) S T.pages h t tvm _ refl refl refl
-    (AddsCpu v refl (λ live. ap (λ (o : Option Tvm). is_some (find_cpu (unwrap_or o (new_tvm t)) v)) (sym live) ∙ ok.1.1.1.0)))
+    alters S T h t _ refl refl (λ tvm. refl) (λ tvm. record {
+      measures = Parts (VcpuRecord v ∷ []) (λ live. building_found S t tvm live ok.1.0) refl refl (tt, tt);
+      maps = Unmapped refl;
+      cpus = AddsCpu v refl (λ live. ap (λ (o : Option Tvm). is_some (find_cpu (unwrap_or o (new_tvm t)) v)) (sym live) ∙ ok.1.1.1.0);
+    })
 change_call S h (Finalize t pc arg) ok =
     alters S (outcome_state S h (Finalize t pc arg)) h t _ refl refl (λ tvm. refl) (λ tvm.
     let built : find_tvm S t ≡ Some tvm → tvm.runnable ≡ false = λ live. building_found S t tvm live ok.1.0 in

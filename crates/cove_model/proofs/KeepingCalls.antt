@@ -2,7 +2,7 @@
 use Rattle.std.proofs.Common.{◌≡◌, ℕ, ◌+◌, ◌<◌, true, false, eqb, eq-eqb, true≢false, List, [], ◌∷◌, ◌++◌, Option, Some, None, unwrap_or, refl, sym, ap, subst, ◌∙◌, inl, inr, ◌⊎◌}
 use Rattle.std.specs.Option.{option_map_or}
 use Rattle.std.proofs.lemmas.Bool.{ne_eqb}
-use Rattle.cove_model.specs.Machine.{Event, at, Owner, has, without, IsSound, Seat, State, find_tvm, harts_inside, is_in, tvm_at, done, Tvm, new_tvm}
+use Rattle.cove_model.specs.Machine.{Event, at, Owner, has, without, IsSound, Seat, State, board_in, find_tvm, harts_inside, is_in, tvm_at, done, Tvm, created, new_tvm}
 use Rattle.cove_model.proofs.Changes.{Adds, Alters, Drops, Grows, Loses, Maps, NoTvm, Once, OneTvm, Restands, Rewords, TvmsChange, Twice, Unmapped}
 use Rattle.cove_model.proofs.GuestChanges.{change_done}
 use Rattle.cove_model.proofs.HartsInside.{has_inside}
@@ -52,12 +52,12 @@ keeps_tvms Calm S T h k u why (Twice made mid one two bound) =
 keeps_tvms Calm S T h k u why (Grows made e) = subst (KeepsAt h u S.tvms) (sym e) (go (find_tvm S u) refl)
   where
     more : List Tvm
-    more = S.tvms ++ new_tvm (S.made + 1) ∷ []
+    more = S.tvms ++ created (S.made + 1) (board_in S) ∷ []
 
     go : (o : Option Tvm) → find_tvm S u ≡ o → Keeps h (unwrap_or o (new_tvm u)) (unwrap_or (at (λ (x : Tvm). x.number) u more) (new_tvm u))
     go None q = keeps_new h u (unwrap_or (at (λ (x : Tvm). x.number) u more) (new_tvm u))
     go (Some tvm) q = subst (λ (o : Option Tvm). Keeps h tvm (unwrap_or o (new_tvm u)))
-        (sym (at_append (λ (x : Tvm). x.number) u S.tvms (new_tvm (S.made + 1) ∷ []) tvm q)) (keeps_same h tvm tvm refl)
+        (sym (at_append (λ (x : Tvm). x.number) u S.tvms (created (S.made + 1) (board_in S) ∷ []) tvm q)) (keeps_same h tvm tvm refl)
 keeps_tvms Calm S T h k u (inl calm) (Loses t made e pages nobody restless) = absurd (restless calm)
 keeps_tvms Calm S T h k u (inr other) (Loses t made e pages nobody restless) = subst (KeepsAt h u S.tvms) (sym e)
     (subst (λ (o : Option Tvm). Keeps h (tvm_at S u) (unwrap_or o (new_tvm u)))

@@ -1,24 +1,25 @@
 -- What events leave of a TVM: pages are measured while it is built, then its finalize record, and nothing after; and the guest
 -- pages of its mappings differ.
 use Rattle.std.proofs.Common.{◌≡◌, ℕ, ◌+◌, Bool, true, false, cond, eqb, eqb-true, true≢false, not, List, [], ◌∷◌, ◌++◌, Option, Some, None, option_map, refl, sym, ap, subst, ◌∙◌, inl, inr, ◌⊎◌, ⊎_elim}
-use Rattle.cove_model.specs.Machine.{Owner, ScriptValue, Entry, Event, State, find_tvm, page_run, after, alter, at, dropped, AreDistinct, guests_of, after_event, done, Mapping, Tvm, new_tvm}
+use Rattle.cove_model.specs.Machine.{Owner, ScriptValue, Entry, Event, State, board_in, find_tvm, page_run, after, alter, at, dropped, AreDistinct, guests_of, after_event, done, Mapping, Tvm, created}
 use Rattle.std.specs.List.{AllByRecursion}
 use Rattle.std.proofs.lemmas.Bool.{cases_eq, ne_eqb}
 use Rattle.std.proofs.lemmas.Option.{none-some, same_Some}
-use Rattle.cove_base.specs.Measurement.{Record, FinalizeRecord}
+use Rattle.cove_base.specs.Measurement.{Record, BoardRecord, FinalizeRecord, board_number}
 use Rattle.cove_model.proofs.AtTheEnd.{after_push, from_end, line_tvms}
-use Rattle.cove_model.proofs.Changes.{Adds, Alters, Drops, Finalizes, Grows, Loses, Maps, Measures, NoTvm, Once, OneTvm, Pages, Restands, Rewords, TvmsChange, Twice, Unmapped, Unmeasured}
+use Rattle.cove_model.proofs.Boards.{board_of}
+use Rattle.cove_model.proofs.Changes.{Adds, Alters, Drops, Finalizes, Grows, Loses, Maps, Measures, NoTvm, Once, OneTvm, Parts, Restands, Rewords, TvmsChange, Twice, Unmapped, Unmeasured}
 use Rattle.cove_model.proofs.GuestChanges.{change_done}
 use Rattle.cove_model.proofs.Distinct.{distinct_filter, keys_dropped, pages_of, pages_remembered, pages_restood}
 use Rattle.cove_model.proofs.KeyedLemmas.{at_alter_other, at_alter_same, at_dropped}
 use Rattle.cove_model.proofs.Lists.{all_append}
-use Rattle.cove_model.specs.Measured.{AreSealed, IsMeasured, IsPage}
+use Rattle.cove_model.specs.Measured.{AreBuilt, AreSealed, IsMeasured, IsPart}
 
 -- ---- what an event leaves of a TVM's records
 
 -- what was measured goes on as it must; of a TVM that runs, nothing more is
 pub record Goes (tvm now : Tvm) : Type 0 where
-  pub keeps : IsMeasured tvm → IsMeasured now
+  pub keeps : (board : ℕ) → IsMeasured board tvm → IsMeasured board now
   pub runs : tvm.runnable ≡ true → now.runnable ≡ true
   pub fixed : tvm.runnable ≡ true → now.records ≡ tvm.records
   pub orders : AreDistinct (guests_of tvm) → AreDistinct (guests_of now)
@@ -26,9 +27,9 @@ pub record Goes (tvm now : Tvm) : Type 0 where
 -- what changes neither whether it runs nor its records
 goes_with : (tvm now : Tvm) → now.runnable ≡ tvm.runnable → now.records ≡ tvm.records → (AreDistinct (guests_of tvm) → AreDistinct (guests_of now)) → Goes tvm now
 goes_with tvm now runs records orders = record {
-  keeps = λ m. record {
-    building = λ e. subst (AllByRecursion IsPage) (sym records) (m.building (sym runs ∙ e));
-    finalized = λ e. subst AreSealed (sym records) (m.finalized (sym runs ∙ e));
+  keeps = λ board m. record {
+    building = λ e. subst (AreBuilt board) (sym records) (m.building (sym runs ∙ e));
+    finalized = λ e. subst (AreSealed board) (sym records) (m.finalized (sym runs ∙ e));
   };
   runs = λ e. runs ∙ e;
   fixed = λ e. records;
@@ -40,7 +41,7 @@ goes_same tvm now runs records guests = goes_with tvm now runs records (λ d. su
 
 goes_then : (one two three : Tvm) → Goes one two → Goes two three → Goes one three
 goes_then one two three a b = record {
-  keeps = λ m. b.keeps (a.keeps m);
+  keeps = λ board m. b.keeps board (a.keeps board m);
   runs = λ e. b.runs (a.runs e);
   fixed = λ e. b.fixed (a.runs e) ∙ a.fixed e;
   orders = λ d. b.orders (a.orders d);
@@ -56,11 +57,11 @@ abbrev pub AllWere : (xs ys : List Tvm) → Type 0
 AllWere xs ys = (t : ℕ) (now : Tvm) → at (λ (k : Tvm). k.number) t ys ≡ Some now → Was xs t now
 
 -- or is new
-abbrev pub Came : (xs : List Tvm) (t : ℕ) (now : Tvm) → Type 0
-Came xs t now = Was xs t now ⊎ ((at (λ (k : Tvm). k.number) t xs ≡ None) × (now ≡ new_tvm t))
+abbrev pub Came : (board : ℕ) (xs : List Tvm) (t : ℕ) (now : Tvm) → Type 0
+Came board xs t now = Was xs t now ⊎ ((at (λ (k : Tvm). k.number) t xs ≡ None) × (now ≡ created t board))
 
-abbrev pub AllCame : (xs ys : List Tvm) → Type 0
-AllCame xs ys = (t : ℕ) (now : Tvm) → at (λ (k : Tvm). k.number) t ys ≡ Some now → Came xs t now
+abbrev pub AllCame : (board : ℕ) (xs ys : List Tvm) → Type 0
+AllCame board xs ys = (t : ℕ) (now : Tvm) → at (λ (k : Tvm). k.number) t ys ≡ Some now → Came board xs t now
 
 were_same : (xs : List Tvm) → AllWere xs xs
 were_same xs t now e = record { tvm = now; live = e; goes = goes_same now now refl refl refl }
@@ -90,12 +91,17 @@ were_altered t how numbers xs each u now e = ⊎_elim
 
 -- ---- what is measured
 
--- more pages, and the finalize record, of a TVM that is built
-goes_on : (tvm now : Tvm) (more : List Record) → tvm.runnable ≡ false → now.runnable ≡ tvm.runnable → now.records ≡ tvm.records ++ more → AllByRecursion IsPage more
+-- more parts come after the board's record
+more_built : (board : ℕ) (records more : List Record) → AreBuilt board records → AllByRecursion IsPart more → AreBuilt board (records ++ more)
+more_built board records more built all =
+    record { parts = built.parts ++ more; all = all_append IsPart built.parts more built.all all; begins = ap (λ rs. rs ++ more) built.begins }
+
+-- more parts, and the finalize record, of a TVM that is built
+goes_on : (tvm now : Tvm) (more : List Record) → tvm.runnable ≡ false → now.runnable ≡ tvm.runnable → now.records ≡ tvm.records ++ more → AllByRecursion IsPart more
     → (AreDistinct (guests_of tvm) → AreDistinct (guests_of now)) → Goes tvm now
 goes_on tvm now more built runs records pages orders = record {
-  keeps = λ m. record {
-    building = λ e. subst (AllByRecursion IsPage) (sym records) (all_append IsPage tvm.records more (m.building built) pages);
+  keeps = λ board m. record {
+    building = λ e. subst (AreBuilt board) (sym records) (more_built board tvm.records more (m.building built) pages);
     finalized = λ e. absurd (true≢false (sym e ∙ runs ∙ built));
   };
   runs = λ e. absurd (true≢false (sym e ∙ built));
@@ -105,9 +111,9 @@ goes_on tvm now more built runs records pages orders = record {
 
 goes_finalized : (tvm now : Tvm) (pc arg : ℕ) → tvm.runnable ≡ false → now.runnable ≡ true → now.records ≡ tvm.records ++ FinalizeRecord pc arg ∷ [] → (AreDistinct (guests_of tvm) → AreDistinct (guests_of now)) → Goes tvm now
 goes_finalized tvm now pc arg built runs records orders = record {
-  keeps = λ m. record {
+  keeps = λ board m. record {
     building = λ e. absurd (true≢false (sym runs ∙ e));
-    finalized = λ e. record { pages = tvm.records; pc = pc; arg = arg; all = m.building built; last = records };
+    finalized = λ e. record { built = tvm.records; are_built = m.building built; pc = pc; arg = arg; last = records };
   };
   runs = λ e. runs;
   fixed = λ e. absurd (true≢false (sym e ∙ built));
@@ -156,7 +162,7 @@ orders_maps Calm Found S pages h t tvm now found (Drops test e restless gone) d 
 
 goes_change : (Found : Type 0) (tvm now : Tvm) → Found → (AreDistinct (guests_of tvm) → AreDistinct (guests_of now)) → Measures Found tvm now → Goes tvm now
 goes_change Found tvm now found orders (Unmeasured runs records) = goes_with tvm now runs records orders
-goes_change Found tvm now found orders (Pages more built runs records all) = goes_on tvm now more (built found) runs records all orders
+goes_change Found tvm now found orders (Parts more built runs records all) = goes_on tvm now more (built found) runs records all orders
 goes_change Found tvm now found orders (Finalizes pc arg built runs records) = goes_finalized tvm now pc arg (built found) runs records orders
 
 were_one : (Calm : Type 0) (S : State) (pages : List Owner) (h : ℕ) (xs ys : List Tvm) → OneTvm Calm S pages h xs ys → AllWere xs ys
@@ -164,34 +170,46 @@ were_one Calm S pages h xs ys (NoTvm e) = subst (AllWere xs) (sym e) (were_same 
 were_one Calm S pages h xs ys (Alters t how e numbers each) = subst (AllWere xs) (sym e) (were_altered t how numbers xs
     (λ tvm live. goes_change _ tvm (how tvm) live (orders_maps Calm _ S pages h t tvm (how tvm) live (each tvm).maps) (each tvm).measures))
 
-pub came_tvms : (Calm : Type 0) (S T : State) (h : ℕ) → TvmsChange Calm S T h → AllCame S.tvms T.tvms
+pub came_tvms : (Calm : Type 0) (S T : State) (h : ℕ) → TvmsChange Calm S T h → AllCame (board_in S) S.tvms T.tvms
 came_tvms Calm S T h (Once made one) = λ t now e. inl (were_one Calm S T.pages h S.tvms T.tvms one t now e)
 came_tvms Calm S T h (Twice made mid one two bound) = λ t now e. inl (were_then S.tvms mid T.tvms (were_one Calm S T.pages h S.tvms mid one) (were_one Calm S T.pages h mid T.tvms two) t now e)
-came_tvms Calm S T h (Grows made e) = subst (AllCame S.tvms) (sym e) (λ t now found. ⊎_elim
+came_tvms Calm S T h (Grows made e) = subst (AllCame (board_in S) S.tvms) (sym e) (λ t now found. ⊎_elim
     (λ old. inl (were_same S.tvms t now old))
-    (λ new. inr (new.0, new.1.0 ∙ ap new_tvm new.1.1))
-    (found_last t S.tvms (new_tvm (S.made + 1)) now found))
-came_tvms Calm S T h (Loses t made e pages nobody restless) = subst (AllCame S.tvms) (sym e) (λ u now found. inl (were_same S.tvms u now (found_kept t u S.tvms now found)))
+    (λ new. inr (new.0, new.1.0 ∙ ap (λ k. created k (board_in S)) new.1.1))
+    (found_last t S.tvms (created (S.made + 1) (board_in S)) now found))
+came_tvms Calm S T h (Loses t made e pages nobody restless) = subst (AllCame (board_in S) S.tvms) (sym e) (λ u now found. inl (were_same S.tvms u now (found_kept t u S.tvms now found)))
 
 -- ---- an event
 
-pub came : (S : State) (h : ℕ) (event : Event) → AllCame S.tvms (after_event S h event).tvms
+pub came : (S : State) (h : ℕ) (event : Event) → AllCame (board_in S) S.tvms (after_event S h event).tvms
 came S h event t now e = came_tvms ⊥ S (done S h event) h (change_done S h event) t now (ap (at (λ (k : Tvm). k.number) t) (sym (line_tvms h ((done S h event).seats h) (done S h event))) ∙ e)
 
 -- ---- histories
 
-measured_new : (t : ℕ) → IsMeasured (new_tvm t)
-measured_new t = record { building = λ e. tt; finalized = λ e. absurd (true≢false (sym e)) }
+measured_new : (t board : ℕ) → IsMeasured board (created t board)
+measured_new t board = record { building = λ e. record { parts = []; all = tt; begins = refl }; finalized = λ e. absurd (true≢false (sym e)) }
+
+-- the size of the board is the script's
+same_board : (script : ScriptValue) (H : List Entry) → board_in (after script H) ≡ board_number script.pages script.harts script.files
+same_board script H =
+    let board = board_of script H in
+    ap (λ p. board_number p (after script H).harts (after script H).files) board.same_pages
+    ∙ ap (λ h. board_number script.pages h (after script H).files) board.same_harts
+    ∙ ap (board_number script.pages script.harts) board.same_files
 
 -- after every history each live TVM is measured as it must be
-pub measured : (script : ScriptValue) (H : List Entry) (t : ℕ) (tvm : Tvm) → find_tvm (after script H) t ≡ Some tvm → IsMeasured tvm
-measured script = from_end (λ H. (t : ℕ) (tvm : Tvm) → find_tvm (after script H) t ≡ Some tvm → IsMeasured tvm)
+pub measured : (script : ScriptValue) (H : List Entry) (t : ℕ) (tvm : Tvm) → find_tvm (after script H) t ≡ Some tvm
+    → IsMeasured (board_number script.pages script.harts script.files) tvm
+measured script = from_end (λ H. (t : ℕ) (tvm : Tvm) → find_tvm (after script H) t ≡ Some tvm → IsMeasured board tvm)
     (λ H e more t tvm live.
     ⊎_elim
-    (λ was. was.goes.keeps (more t was.tvm was.live))
-    (λ new. subst IsMeasured (sym new.1) (measured_new t))
+    (λ was. was.goes.keeps board (more t was.tvm was.live))
+    (λ new. subst (IsMeasured board) (sym (new.1 ∙ ap (created t) (same_board script H))) (measured_new t board))
     (came (after script H) e.hart.0 e.event t tvm (ap (λ (S : State). find_tvm S t) (sym (after_push script H e)) ∙ live)))
     (λ t tvm live. absurd (none-some tvm live))
+  where
+    board : ℕ
+    board = board_number script.pages script.harts script.files
 
 -- of a TVM that runs nothing more is measured, whatever entry comes
 pub sealed : (script : ScriptValue) (H : List Entry) (e : Entry) (t : ℕ) (tvm now : Tvm) → find_tvm (after script H) t ≡ Some tvm → tvm.runnable ≡ true

@@ -3,7 +3,7 @@ use Rattle.std.proofs.Common.{◌≡◌, ℕ, ◌+◌, ◌≤◌, Bool, true, fa
 use Rattle.std.specs.List.{AllByRecursion}
 use Rattle.std.proofs.lemmas.Bool.{cases_lt}
 use Rattle.std.proofs.lemmas.List.{map-append}
-use Rattle.cove_model.specs.Machine.{ScriptValue, Entry, Owner, Purpose, Host, Converting, Free, Given, converted, fence_answered, fenced, has, page_at, reclaimed, settled, without, word_stored, zeros, freed, harts_below, opening_words, Seat, State, opening, after, AreDistinct, IsOrderly, numbers_of, done, left, line_ended, Tvm, new_tvm}
+use Rattle.cove_model.specs.Machine.{ScriptValue, Entry, Owner, Purpose, Host, Converting, Free, Given, converted, fence_answered, fenced, has, page_at, reclaimed, settled, without, word_stored, zeros, freed, harts_below, opening_words, Seat, State, board_in, opening, after, AreDistinct, IsOrderly, numbers_of, done, left, line_ended, Tvm, created}
 use Rattle.cove_model.proofs.Runs.{page_map, opening_page, opening_past}
 use Rattle.cove_model.proofs.AtTheEnd.{after_push, from_end}
 use Rattle.cove_model.proofs.Distinct.{distinct_append, distinct_filter, has_kept, has_left, keys_altered, keys_dropped}
@@ -55,7 +55,7 @@ numbers_one Calm S pages h xs ys (Alters t how e numbers each) = ap (map (λ (k 
 renumbered : (Calm : Type 0) (S T : State) (h : ℕ) → TvmsChange Calm S T h → Renumbered S T
 renumbered Calm S T h (Once made one) = Kept made (numbers_one Calm S T.pages h S.tvms T.tvms one)
 renumbered Calm S T h (Twice made mid one two bound) = Kept made (numbers_one Calm S T.pages h mid T.tvms two ∙ numbers_one Calm S T.pages h S.tvms mid one)
-renumbered Calm S T h (Grows made e) = Added made (ap (map (λ (k : Tvm). k.number)) e ∙ map-append (λ (k : Tvm). k.number) S.tvms (new_tvm (S.made + 1) ∷ []))
+renumbered Calm S T h (Grows made e) = Added made (ap (map (λ (k : Tvm). k.number)) e ∙ map-append (λ (k : Tvm). k.number) S.tvms (created (S.made + 1) (board_in S) ∷ []))
 renumbered Calm S T h (Loses t made e pages nobody restless) =
     Fewer (λ n. not (eqb n t)) made (ap (map (λ (k : Tvm). k.number)) e ∙ keys_dropped (λ (k : Tvm). k.number) (λ n. eqb n t) S.tvms)
     (λ p u purpose given. freed_apart t u purpose (page_at S.pages p) (sym (page_map (freed t) refl S.pages p) ∙ ap (λ ps. page_at ps p) (sym pages) ∙ given))

@@ -2,7 +2,7 @@
 use Rattle.std.proofs.Common.{◌≡◌, ℕ, ◌+◌, ◌<◌, true, false, eqb, true≢false, map, List, [], ◌∷◌, Option, Some, None, is_some, is_none, unwrap_or, option_map, refl, sym, ap, subst, ◌∙◌, inl, inr, ◌⊎◌, ⊎_elim}
 use Rattle.std.proofs.lemmas.Bool.{cases_eq, ne_eqb}
 use Rattle.std.proofs.lemmas.Option.{none-some, same_Some}
-use Rattle.cove_model.specs.Machine.{HostCall, Convert, Run, Event, Reply, Owner, has, Seat, State, find_cpu, find_tvm, harts_inside, new_cpu, on_cpu, runner, tvm_at, refusal, state_by, rule, at, left_unbinding, rebound, IsOn, IsSeated, IsStill, after_event, done, done_at, end_line, guest_done, host_done, left_by, line_ended, Cpu, Tvm, Unbinding, new_tvm}
+use Rattle.cove_model.specs.Machine.{HostCall, Convert, Run, Event, Reply, Owner, has, Seat, State, board_in, find_cpu, find_tvm, harts_inside, new_cpu, on_cpu, runner, tvm_at, refusal, state_by, rule, at, left_unbinding, rebound, IsOn, IsSeated, IsStill, after_event, done, done_at, end_line, guest_done, host_done, left_by, line_ended, Cpu, Tvm, Unbinding, created, new_tvm}
 use Rattle.cove_base.specs.declared.events.Event.TheVariants as events
 use Rattle.cove_base.specs.declared.events.Exit.{Exit}
 use Rattle.cove_model.proofs.Cpus.{AllStay, Anyhow, TvmStays, none_runs, stay_append, stay_map, stay_on_cpu, stay_same, stay_then, still_refl, still_then, tvm_altered, tvm_stays, tvm_then}
@@ -13,7 +13,7 @@ use Rattle.cove_model.proofs.KeepingCalls.{Sits, sits_inside}
 use Rattle.cove_model.proofs.KeyedLemmas.{at_alter_same, at_append, at_dropped}
 use Rattle.cove_model.proofs.Moves.{outcome_state}
 use Rattle.cove_model.proofs.Passing.{Passed, row_passed}
-use Rattle.cove_model.proofs.Changes.{AddsCpu, Alters, Cpus, CpusStay, Finalizes, Grows, Leaves, Loses, Measures, NoTvm, Once, OnCpu, OneTvm, Pages, Rebinds, Spares, Starts, TvmsChange, Twice, Unmeasured, stopped_by}
+use Rattle.cove_model.proofs.Changes.{AddsCpu, Alters, Cpus, CpusStay, Finalizes, Grows, Leaves, Loses, Measures, NoTvm, Once, OnCpu, OneTvm, Parts, Rebinds, Spares, Starts, TvmsChange, Twice, Unmeasured, stopped_by}
 use Rattle.cove_model.proofs.CheckedRuns.{not_false}
 use Rattle.cove_model.proofs.GuestChanges.{change_done, change_guest, seats_after}
 
@@ -30,7 +30,7 @@ left_number (Exit.Trap cause) cpu = refl
 
 runs_on : (Found : Type 0) (tvm now : Tvm) → Measures Found tvm now → tvm.runnable ≡ true → now.runnable ≡ true
 runs_on Found tvm now (Unmeasured runs records) is = runs ∙ is
-runs_on Found tvm now (Pages more built runs records all) is = runs ∙ is
+runs_on Found tvm now (Parts more built runs records all) is = runs ∙ is
 runs_on Found tvm now (Finalizes pc arg built runs records) is = runs
 
 module _ (R : Cpu → Cpu → Type 0) (refl_R : (cpu : Cpu) → R cpu cpu) (then_R : (one two three : Cpu) → R one two → R two three → R one three)
@@ -58,7 +58,7 @@ module _ (R : Cpu → Cpu → Type 0) (refl_R : (cpu : Cpu) → R cpu cpu) (then
   stays_tvms Calm T some (Twice made mid one two bound) = tvm_then R then_R u v S.tvms mid T.tvms (stays_one Calm T.pages S.tvms mid one) (stays_one Calm T.pages mid T.tvms two)
   stays_tvms Calm T some (Grows made e) = λ tvm live. record {
     now = tvm;
-    live = ap (at (λ (x : Tvm). x.number) u) e ∙ at_append (λ (x : Tvm). x.number) u S.tvms (new_tvm (S.made + 1) ∷ []) tvm live;
+    live = ap (at (λ (x : Tvm). x.number) u) e ∙ at_append (λ (x : Tvm). x.number) u S.tvms (created (S.made + 1) (board_in S) ∷ []) tvm live;
     stay = stay_same R refl_R v tvm tvm refl (λ on. on);
   }
   stays_tvms Calm T some (Loses t made e pages nobody restless) = λ tvm live. record {

@@ -2,7 +2,7 @@
 use Rattle.std.proofs.Common.{◌≡◌, ℕ, cond, ◌+◌, ◌/◌, ◌<◌, ◌≤◌, Bool, true, false, ◌&&◌, ◌||◌, not, nat_le, nat_lt, eqb, map, flat_map, filter_map, List, [], ◌∷◌, ◌++◌, Option, Some, None, refl, sym, ap, subst, ◌∙◌, inl, inr, ◌⊎◌, ⊎_elim, eqb-true, eq-eqb, true≢false}
 use Rattle.std.specs.List.{AllByRecursion, list_any, cons_option}
 use Rattle.std.proofs.lemmas.Bool.{and_from, cases_lt, le-leb, lt-ltb}
-use Rattle.cove_model.specs.Machine.{HostCall, Convert, GlobalFence, LocalFence, Reclaim, Create, Tables, Measured, Zero, Run, Remove, Destroy, Owner, Host, Converting, Free, Given, Purpose, AsRoot, AsState, AsTable, AsVcpu, AsData, fence_answered, change, converted, fenced, is_host, page_at, reclaimed, without, Within, IsBacked, IsHeldWithin, IsSound, IsSoundMapping, IsSoundTvm, harts_below, State, harts_inside, shown_page, is_among, rule, alter, dropped, freed, given_to, removed, Backing, OwnPage, HostPage, Mapping, Standing, Present, Blocked, Tvm, new_tvm}
+use Rattle.cove_model.specs.Machine.{HostCall, Convert, GlobalFence, LocalFence, Reclaim, Create, Tables, Measured, Zero, Run, Remove, Destroy, Owner, Host, Converting, Free, Given, Purpose, AsRoot, AsState, AsTable, AsVcpu, AsData, fence_answered, change, converted, fenced, is_host, page_at, reclaimed, without, Within, IsBacked, IsHeldWithin, IsSound, IsSoundMapping, IsSoundTvm, harts_below, State, board_in, harts_inside, shown_page, is_among, rule, alter, dropped, freed, given_to, removed, Backing, OwnPage, HostPage, Mapping, Standing, Present, Blocked, Tvm, created}
 use Rattle.cove_base.specs.declared.calls.HostCall.TheVariants.{Vcpu}
 use Rattle.cove_model.proofs.Members.{false-true}
 use Rattle.cove_model.proofs.Runs.{change_cases, change_outside, page_map}
@@ -155,7 +155,7 @@ sound_tvms : (Calm : Type 0) (S T : State) (h : ℕ) → IsSound S → TvmsChang
 sound_tvms Calm S T h sound (Once made one) all = sound_one Calm S T.pages h S.tvms T.tvms sound one all
 sound_tvms Calm S T h sound (Twice made mid one two bound) all = sound_one Calm S T.pages h mid T.tvms sound two (sound_one Calm S T.pages h S.tvms mid sound one all)
 sound_tvms Calm S T h sound (Grows made e) all =
-    subst (AllByRecursion (IsSoundTvm (on_pages T.pages S))) (sym e) (all_append (IsSoundTvm (on_pages T.pages S)) S.tvms (new_tvm (S.made + 1) ∷ []) all (tt, tt))
+    subst (AllByRecursion (IsSoundTvm (on_pages T.pages S))) (sym e) (all_append (IsSoundTvm (on_pages T.pages S)) S.tvms (created (S.made + 1) (board_in S) ∷ []) all (tt, tt))
 sound_tvms Calm S T h sound (Loses t made e pages nobody restless) all = subst (AllByRecursion (IsSoundTvm (on_pages T.pages S))) (sym e)
     (all_filter (IsSoundTvm (on_pages T.pages S)) (IsSoundTvm (on_pages T.pages S)) (λ (tvm : Tvm). not (eqb tvm.number t)) (λ tvm kept each. each) S.tvms all)
 

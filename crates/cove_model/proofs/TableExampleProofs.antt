@@ -20,16 +20,16 @@ first_words = host 0 ∷ host 0 ∷ given 1 Data ∷ released ∷ given 1 Root �
 rooted_zero : (place : ℕ) → 8 ≤ place → get_or rooted place 0 ≡ 0
 rooted_zero place past = get_or-append_right first_words (replicate (all_words 8 1 - 8) 0) 8 place 0 refl past ∙ replicate_zero (all_words 8 1 - 8) (place - 8)
 
-size : length rooted ≡ 4125
+size : length rooted ≡ 4173
 size = refl
 
-entered_other : (place : ℕ) → place ≢ 4123 → get_or entered_words place 0 ≡ get_or rooted place 0
-entered_other place ne = get_or-set_other rooted 4123 place (2 ^ 32) 0 ne
+entered_other : (place : ℕ) → place ≢ 4171 → get_or entered_words place 0 ≡ get_or rooted place 0
+entered_other place ne = get_or-set_other rooted 4171 place (2 ^ 32) 0 ne
 
 entered_here : get_or entered_words (hart_word 8 1 0) 0 ≡ 2 ^ 32
-entered_here = get_or-set_same rooted 4123 (2 ^ 32) 0 (omega (arith, size))
+entered_here = get_or-set_same rooted 4171 (2 ^ 32) 0 (omega (arith, size))
 
-entered_zero : (place : ℕ) → 8 ≤ place → place ≢ 4123 → get_or entered_words place 0 ≡ 0
+entered_zero : (place : ℕ) → 8 ≤ place → place ≢ 4171 → get_or entered_words place 0 ≡ 0
 entered_zero place past ne = entered_other place ne ∙ rooted_zero place past
 
 -- ---- empty tables
@@ -110,10 +110,10 @@ within tvm hart number low high on there =
 
 pub not_within : EntersWithin 8 1 (set rooted (hart_word 8 1 0) (2 ^ 32 + 1)) → ⊥
 not_within most =
-    let here : get_or (set rooted (hart_word 8 1 0) (2 ^ 32 + 1)) (hart_word 8 1 0) 0 ≡ 2 ^ 32 + 1 = get_or-set_same rooted 4123 (2 ^ 32 + 1) 0 (omega (arith, size)) in
+    let here : get_or (set rooted (hart_word 8 1 0) (2 ^ 32 + 1)) (hart_word 8 1 0) 0 ≡ 2 ^ 32 + 1 = get_or-set_same rooted 4171 (2 ^ 32 + 1) 0 (omega (arith, size)) in
     let few = most 1 0 1 (omega arith) (omega arith) (omega arith) (omega arith, here) in
     let number : number_in 8 1 (set rooted (hart_word 8 1 0) (2 ^ 32 + 1)) 1 ≡ 0 =
-    get_or-set_other rooted 4123 (tvm_word 8 1 1) (2 ^ 32 + 1) 0 (omega arith) ∙ rooted_zero (tvm_word 8 1 1) (omega arith) in
+    get_or-set_other rooted 4171 (tvm_word 8 1 1) (2 ^ 32 + 1) 0 (omega arith) ∙ rooted_zero (tvm_word 8 1 1) (omega arith) in
     absurd (omega arith)
 
 -- ---- what a hart inside relies on

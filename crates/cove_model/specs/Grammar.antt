@@ -186,7 +186,7 @@ has_wrong_count (HartAlone hart) = true
 has_wrong_count (HartLine hart word words) = is_none (line_of word (map value words))
 has_wrong_count Unknown = false
 
--- a board has 1 to 1024 pages, 1 to 8 harts and at most 7 interrupt files a hart
+-- a board has 1 to 4096 pages, 1 to 8 harts and at most 7 interrupt files a hart
 abbrev pub is_board : List ℕ → Bool
 is_board (pages ∷ harts ∷ files ∷ more) =
     nat_le 1 pages && nat_le pages PAGE_LIMIT && nat_le 1 harts && nat_le harts HART_LIMIT && nat_le files FILE_LIMIT

@@ -90,10 +90,10 @@ InOwnPage S t addr size =
 abbrev pub blocking : State → (h t gpa n : ℕ) → List Mapping → List Mapping
 blocking S h t gpa n mappings = restood (is_among gpa n) (blocked_standing (without h (harts_inside S t))) mappings
 
--- the evidence of a TVM over the nonce at an address
+-- the evidence of a TVM over the nonce at an address, which is of version 2
 abbrev pub evidence_at : State → (t nonce : ℕ) → List ℕ
 evidence_at S t nonce =
-    evidence (registers_of (tvm_at S t).records (tvm_at S t).extensions) (guest_bytes S t nonce 64) S.key
+    evidence 2 (registers_of (tvm_at S t).records (tvm_at S t).extensions) (guest_bytes S t nonce 64) S.key
 
 -- the rule of an act of the guest that a hart runs in a TVM, with its first two arguments
 abbrev pub guest_rule : State → (hart t a0 a1 : ℕ) → GuestAct → Rule

@@ -1,10 +1,10 @@
 -- The rule of each call of the host: its checks in order, its outcome, and which translations of its hart it empties.
 use Rattle.std.specs.Prelude.{ℕ, ◌+◌, ◌/◌, true, List, [], ◌∷◌, ◌++◌, map, ◌==◌, replicate, Some, None}
 use Rattle.std.specs.Option.{option_map_or}
-use Rattle.cove_base.specs.Measurement.{Record, PageRecord, FinalizeRecord}
+use Rattle.cove_base.specs.Measurement.{Record, PageRecord, VcpuRecord, FinalizeRecord}
 use Rattle.cove_model.specs.Owners.{Purpose, AsRoot, AsState, AsTable, AsVcpu, AsData, fence_answered, change, converted, fenced, page_at, reclaimed, without, words_of, zeros}
 use Rattle.cove_model.specs.Refusals.{Check, Count, Aligned}
-use Rattle.cove_model.specs.States.{harts_below, State, harts_inside, new_cpu, on_cpu, on_tvm, seated}
+use Rattle.cove_model.specs.States.{board_in, harts_below, State, harts_inside, new_cpu, on_cpu, on_tvm, seated}
 use Rattle.cove_model.specs.Types.{HostCall, Convert, GlobalFence, LocalFence, Reclaim, Create, Region, Tables, Measured, Vcpu, Finalize, Zero, Shared, Run, Invalidate, TvmFence, Validate, Remove, Destroy, Kick, Info, Bind, Unbind, Unbound, Inject}
 use Rattle.cove_model.specs.Checks.{WithinMemory, AllHost, AllFree, NoneShared, AllAnswered, OnBoard, RoomForTvm, RootAligned, StateApart, Live, IsBuilding, IsRunnable, NobodyInside, AllLeft, IsArea, NoOverlap, RoomForRegion, AllPrivate, AllShared, Unmapped, EnoughTables, AllPresent, AllBlocked, KindsKept, AllFenced, CpuNumber, NoCpuYet, HasCpu, HasSomeCpu, PlaceAligned, Fuel, NotRunning, NotStopped, NotElsewhere, NotLeaving, UnbindingNotBegun, UnbindingBegun, UnbindingFenced, IsBound, NotBound, FileNumber, FileNotTaken, Identity, IsAllowed}
 use Rattle.cove_model.specs.GuestPages.{is_among, page_run}
@@ -12,7 +12,7 @@ use Rattle.cove_base.specs.InterruptFiles.{raised}
 use Rattle.cove_model.specs.Keyed.{dropped}
 use Rattle.cove_model.specs.Mappings.{blocked_standing, fenced_tvm, own_mappings, rebound, restood, shared_mappings, unblocked_standing, with_mappings}
 use Rattle.cove_model.specs.Pages.{change_each, freed, given_to, removed}
-use Rattle.cove_model.specs.Tvms.{Begun, NotBegun, Cpu, new_tvm}
+use Rattle.cove_model.specs.Tvms.{Begun, NotBegun, Cpu, created}
 
 -- which translations of its hart an accepted call empties: none, those of guests, or all
 pub data Forgets : Type 0 where
@@ -85,7 +85,7 @@ rule S h (Create root state) =
     giving t
     (RoomForTvm S ∷ RootAligned root ∷ Aligned state ∷ WithinMemory S root 4 ∷ WithinMemory S state 1 ∷ StateApart root state
     ∷ AllFree S root 4 ∷ AllFree S state 1 ∷ [])
-    (giving_pages t AsState state 1 (giving_pages t AsRoot root 4 (record S { tvms = S.tvms ++ new_tvm t ∷ []; made = t })))
+    (giving_pages t AsState state 1 (giving_pages t AsRoot root 4 (record S { tvms = S.tvms ++ created t (board_in S) ∷ []; made = t })))
 rule S h (Region t gpa len) = simply
     (Live S t ∷ IsBuilding S t ∷ Aligned gpa ∷ Aligned len ∷ IsArea gpa len ∷ NoOverlap S t gpa len ∷ RoomForRegion S t ∷ [])
     (on_tvm t (λ tvm. record tvm { regions = tvm.regions ++ record { first = gpa / 4096; count = len / 4096 } ∷ [] }) S)
@@ -102,7 +102,7 @@ rule S h (Measured t src dst n gpa) =
     }) (giving_memory t dst n gpa S))
 rule S h (Vcpu t v state) = simply
     (Live S t ∷ IsBuilding S t ∷ CpuNumber v ∷ NoCpuYet S t v ∷ Aligned state ∷ WithinMemory S state 1 ∷ AllFree S state 1 ∷ [])
-    (on_tvm t (λ tvm. record tvm { cpus = tvm.cpus ++ new_cpu v ∷ [] }) (giving_pages t AsVcpu state 1 S))
+    (on_tvm t (λ tvm. record tvm { cpus = tvm.cpus ++ new_cpu v ∷ []; records = tvm.records ++ VcpuRecord v ∷ [] }) (giving_pages t AsVcpu state 1 S))
 rule S h (Finalize t pc arg) = simply
     (Live S t ∷ IsBuilding S t ∷ HasSomeCpu S t ∷ PlaceAligned pc ∷ [])
     (on_tvm t (λ tvm. record tvm {

@@ -1,7 +1,7 @@
 -- The machine's definitions and the words that it is seen in, handed on so that one import brings a proof all that it speaks of.
 pub use Rattle.cove_model.specs.Owners.{AsData, AsRoot, AsState, AsTable, AsVcpu, Converting, Free, Given, Holder, Host, OfTvm, Owner, Purpose, TheHost, TheMonitor, change, converted, every, fence_answered, fenced, has, holder, is_free, is_host, may_use, page_at, reclaimed, settled, without, word_stored, words_of, zeros}
-pub use Rattle.cove_model.specs.Tvms.{Backing, Begun, Binding, Blocked, Cpu, HostPage, Mapping, NotBegun, OwnPage, Present, Standing, Tvm, Unbinding, new_tvm}
-pub use Rattle.cove_model.specs.States.{Seat, State, byte_after, cpu_at, ended_by, find_cpu, find_tvm, harts_below, harts_inside, is_in, is_on, new_cpu, on_cpu, on_tvm, opening, opening_byte, opening_words, page_of, runner, seated, shared_pages, shown_page, tvm_at, word_at, word_place}
+pub use Rattle.cove_model.specs.Tvms.{Backing, Begun, Binding, Blocked, Cpu, HostPage, Mapping, NotBegun, OwnPage, Present, Standing, Tvm, Unbinding, created, new_tvm}
+pub use Rattle.cove_model.specs.States.{Seat, State, board_in, byte_after, cpu_at, ended_by, find_cpu, find_tvm, harts_below, harts_inside, is_in, is_on, new_cpu, on_cpu, on_tvm, opening, opening_byte, opening_words, page_of, runner, seated, shared_pages, shown_page, tvm_at, word_at, word_place}
 pub use Rattle.cove_model.specs.Refusals.{Aligned, Check, Count, first_failing, plain}
 pub use Rattle.cove_model.specs.Checks.{AllFree, AllHost, CpuNumber, EnoughTables, IsArea, IsBuilding, IsRunnable, Live, NoCpuYet, NoOverlap, NoneShared, RoomForRegion, RoomForTvm, RootAligned, StateApart, Unmapped, WithinMemory, is_at, is_mapped_by}
 pub use Rattle.cove_model.specs.HostCalls.{Forgets, ForgetsAll, ForgetsGuests, Keeps, Rule, giving_memory, page_records, page_words_from, rule, started}

@@ -28,7 +28,7 @@ first_lines =
     ∷ (codes "board 0 1 0 x", BadNumber)
     ∷ (codes "board 18446744073709551616 1 0", BadNumber)
     ∷ (codes "board 0 1 0", OutOfBoard)
-    ∷ (codes "board 1025 1 0", OutOfBoard)
+    ∷ (codes "board 4097 1 0", OutOfBoard)
     ∷ (codes "board 1 0 0", OutOfBoard)
     ∷ (codes "board 1 9 0", OutOfBoard)
     ∷ (codes "board 1 257 0", OutOfBoard)

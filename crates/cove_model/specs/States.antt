@@ -1,11 +1,12 @@
 -- What the monitor knows, and how it begins.
 use Rattle.std.specs.Int.{from_le_bytes, w64}
-use Rattle.std.specs.Prelude.{◌+◌, ◌-◌, ◌*◌, ◌/◌, ◌%◌, nat_lt, fold, slice_index_or, ℕ, ◌==◌, ◌&&◌, Bool, false, if◌then◌else◌, List, [], map, filter, find, flat_map, filter_map, replicate, slice_index, Option, Some, None, unwrap_or}
+use Rattle.std.specs.Prelude.{◌+◌, ◌-◌, ◌*◌, ◌/◌, ◌%◌, nat_lt, fold, slice_index_or, ℕ, ◌==◌, ◌&&◌, Bool, false, if◌then◌else◌, List, [], map, filter, find, flat_map, filter_map, length, replicate, slice_index, Option, Some, None, unwrap_or}
 use Rattle.std.specs.List.{range_with_len}
 use Rattle.std.specs.Option.{option_map_or}
 use Rattle.cove_model.specs.Owners.{Owner, Host, page_at, words_of}
 use Rattle.cove_model.specs.Types.{Fill, ScriptValue}
 use Rattle.cove_base.specs.InterruptFiles.{empty_file}
+use Rattle.cove_base.specs.Measurement.{board_number}
 use Rattle.cove_model.specs.Keyed.{at, alter}
 use Rattle.cove_model.specs.Tvms.{Backing, OwnPage, HostPage, Cpu, Tvm, new_tvm}
 
@@ -43,6 +44,10 @@ pub record State : Type 0 where
   pub seats : ℕ → Option Seat
   -- the harts for which a kick stands
   pub kicked : List ℕ
+
+-- the size of the board, as its record has it
+abbrev pub board_in : State → ℕ
+board_in S = board_number (length S.pages) S.harts S.files
 
 -- the number of lines that a hart has ended
 abbrev pub ended_by : State → (hart : ℕ) → ℕ

@@ -1,7 +1,7 @@
 -- What a TVM, a confidential virtual machine, is made of.
-use Rattle.std.specs.Prelude.{ℕ, Bool, false, List, [], Option}
+use Rattle.std.specs.Prelude.{ℕ, Bool, false, List, [], ◌∷◌, Option}
 use Rattle.cove_base.specs.InterruptFiles.{InterruptFile}
-use Rattle.cove_base.specs.Measurement.{Extension, Record}
+use Rattle.cove_base.specs.Measurement.{Extension, Record, BoardRecord}
 
 -- what a guest page shows: a page of the TVM's own with its words, or a page of the host's
 pub data Backing : Type 0 where
@@ -66,7 +66,7 @@ pub record Tvm : Type 0 where
   pub yet : List ℕ
   pub cpus : List Cpu
 
--- a TVM as it is created
+-- a TVM with nothing in it
 abbrev pub new_tvm : (number : ℕ) → Tvm
 new_tvm number = record {
   number = number;
@@ -83,3 +83,7 @@ new_tvm number = record {
   yet = [];
   cpus = [];
 }
+
+-- the new TVM that `create` adds on a board: its measurement begins with the board's record
+abbrev pub created : (number board : ℕ) → Tvm
+created number board = record (new_tvm number) { records = BoardRecord board ∷ [] }

@@ -2,7 +2,7 @@
 
 ghost use Rattle.std.specs.Prelude.{◌≡◌, ◌<◌, ◌≤◌, ◌↔◌, ℕ, List, [], ◌∷◌, ◌++◌, length, map, slice_index_or, Some, None, true, false, IsTrue};
 ghost use Rattle.cove_base.specs.Evidence.{evidence};
-ghost use Rattle.cove_base.specs.Measurement.{Extension, Record, record_bytes, register_of, registers_of};
+ghost use Rattle.cove_base.specs.Measurement.{Extension, Record, board_number, record_bytes, register_of, registers_of};
 ghost use Rattle.cove_base.specs.Registers.{register};
 ghost use Rattle.cove_base.specs.Scripts.{ScriptValue, is_within_limits};
 ghost use Rattle.cove_base.specs.declared.calls.GuestAct.{GuestAct};
@@ -228,17 +228,18 @@ pub fn still_rounds_are_last()
         → round limit script play ≡ play → IsEnded limit script play.history }
 {}
 
-/// What is measured of a TVM is its pages while it is built and its finalize record last; so register 0 of its evidence
-/// is the fold of these, whatever came since.
+/// What is measured of a TVM is the board it was created on, its pages and vCPUs while it is built, and its finalize record
+/// last; so register 0 of its evidence is the fold of these, whatever came since.
 pub fn records_are_sealed()
     ensures measured { (script : ScriptValue) (history : List Entry) (t : ℕ) (tvm : Tvm)
-        → find_tvm (after script history) t ≡ Some tvm → IsMeasured tvm }
+        → find_tvm (after script history) t ≡ Some tvm
+        → IsMeasured (board_number script.pages script.harts script.files) tvm }
     ensures sealed { (script : ScriptValue) (history : List Entry) (entry : Entry) (t : ℕ) (tvm now : Tvm)
         → find_tvm (after script history) t ≡ Some tvm → tvm.runnable ≡ true
         → find_tvm (after script (history ++ entry ∷ [])) t ≡ Some now
         → (now.runnable ≡ true) × (now.records ≡ tvm.records) }
     ensures registers { (S : State) (t nonce : ℕ) → evidence_at S t nonce
-        ≡ evidence (registers_of (tvm_at S t).records (tvm_at S t).extensions) (guest_bytes S t nonce 64) S.key }
+        ≡ evidence 2 (registers_of (tvm_at S t).records (tvm_at S t).extensions) (guest_bytes S t nonce 64) S.key }
     ensures first { (records : List Record) (extensions : List Extension)
         → slice_index_or (registers_of records extensions) 0 [] ≡ register_of (map record_bytes records) }
 {}

@@ -92,7 +92,7 @@ pub fn worked_guest_calls()
     ensures evidence_over_two_pages { failing_with readable 0x10000 0x10ea0 GuestAct.Evidence ≡ answers (InvalidAddress ∷ []) }
     ensures evidence_into_a_shared_page { failing_with readable 0x10000 0x13000 GuestAct.Evidence ≡ answers (InvalidAddress ∷ []) }
     ensures evidence_into_a_blocked_page { failing_with readable 0x10000 0x11000 GuestAct.Evidence ≡ answers (InvalidAddress ∷ []) }
-    ensures tells { evidence_at readable 1 0x10000 ≡ evidence (replicate 5 (replicate 48 0)) (as_bytes (range_with_len 1 8)) (0 ∷ []) }
+    ensures tells { evidence_at readable 1 0x10000 ≡ evidence 2 (replicate 5 (replicate 48 0)) (as_bytes (range_with_len 1 8)) (0 ∷ []) }
     ensures tells_where_it_is_asked { (mapping_of (tvm_at (rule_with readable 0x10000 0x10008 GuestAct.Evidence).outcome.state 1) 16)
         ≡ Some (mapped 16 (OwnPage 4 (overwritten 1 (words_in (evidence_at readable 1 0x10000)) (range_with_len 1 8))) Present) }
     ensures overwrites { overwritten 2 (7 ∷ 8 ∷ []) (range_with_len 1 6) ≡ 1 ∷ 2 ∷ 7 ∷ 8 ∷ 5 ∷ 6 ∷ [] }

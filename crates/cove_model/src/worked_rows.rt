@@ -3,7 +3,7 @@
 
 ghost use Rattle.std.specs.Prelude.{◌≡◌, ◌∷◌, ◌++◌, [], false, map, None, replicate, Some, true};
 ghost use Rattle.cove_base.specs.InterruptFiles.{empty_file, raised};
-ghost use Rattle.cove_base.specs.Measurement.{FinalizeRecord, PageRecord};
+ghost use Rattle.cove_base.specs.Measurement.{BoardRecord, FinalizeRecord, PageRecord, VcpuRecord};
 ghost use Rattle.cove_base.specs.declared.calls.HostCall.TheVariants.{Bind, Convert, Create, Destroy, Finalize, GlobalFence, Info, Inject, Invalidate, Kick, LocalFence, Measured, Reclaim, Region, Remove, Run, Shared, Tables, TvmFence, Unbind, Unbound, Validate, Vcpu, Zero};
 ghost use Rattle.cove_base.specs.declared.statuses.Status.TheVariants.{AlreadyAvailable, AlreadyStarted, AlreadyStopped, Denied, Failed, InvalidAddress, InvalidParam};
 ghost use Rattle.cove_model.specs.Answers.{outcome};
@@ -52,8 +52,8 @@ pub fn worked_conversions()
 
 /// TVMs from their creation to their end.
 pub fn worked_lives()
-    ensures create_of_the_seventeenth { failing (record all_free { made = 16 }) (Create 0x4000 0x8000) ≡ answers (Failed ∷ []) }
-    ensures create_of_the_sixteenth { failing (record all_free { made = 15 }) (Create 0x4000 0x8000) ≡ [] }
+    ensures create_of_the_65th { failing (record all_free { made = 64 }) (Create 0x4000 0x8000) ≡ answers (Failed ∷ []) }
+    ensures create_of_the_64th { failing (record all_free { made = 63 }) (Create 0x4000 0x8000) ≡ [] }
     ensures create_with_root_between { failing all_free (Create 0x5000 0x9000) ≡ answers (InvalidAddress ∷ []) }
     ensures create_with_state_unaligned { failing all_free (Create 0x4000 0x8001) ≡ answers (InvalidAddress ∷ []) }
     ensures create_with_root_outside { failing all_free (Create 0x10000 0x8000) ≡ answers (InvalidAddress ∷ []) }
@@ -61,11 +61,11 @@ pub fn worked_lives()
     ensures create_with_one_for_both { failing all_free (Create 0x4000 0x7000) ≡ answers (InvalidAddress ∷ []) }
     ensures create_with_root_taken { failing (with_page 7 (Host zeros) all_free) (Create 0x4000 0x8000) ≡ answers (InvalidAddress ∷ []) }
     ensures create_with_state_taken { failing (with_page 8 (Host zeros) all_free) (Create 0x4000 0x8000) ≡ answers (InvalidAddress ∷ []) }
-    ensures create_in_order { failing (record all_free { made = 16 }) (Create 0x11001 0x12001) ≡ answers (Failed ∷ replicate 5 InvalidAddress) }
+    ensures create_in_order { failing (record all_free { made = 64 }) (Create 0x11001 0x12001) ≡ answers (Failed ∷ replicate 5 InvalidAddress) }
     ensures creates { outcome all_free 1 (Create 0x4000 0x8000) ≡ record {
       state = record all_free {
         pages = replicate 4 Free ++ replicate 4 (Given 1 AsRoot) ++ Given 1 AsState ∷ replicate 7 Free;
-        tvms = new_tvm 1 ∷ [];
+        tvms = record (new_tvm 1) { records = BoardRecord 0x20010 ∷ [] } ∷ [];
         made = 1;
       };
       value = 1;
@@ -108,6 +108,7 @@ pub fn worked_lives()
     ensures vcpu_in_order { failing running (Vcpu 1 1 0x8001) ≡ answers (Denied ∷ AlreadyAvailable ∷ InvalidAddress ∷ InvalidAddress ∷ []) }
     ensures vcpu_in_order_too { failing running (Vcpu 1 4 0xc001) ≡ answers (Denied ∷ InvalidParam ∷ InvalidAddress ∷ InvalidAddress ∷ []) }
     ensures adds_a_vcpu { (tvm_after building (Vcpu 1 2 0xa000)).cpus ≡ first_cpu ∷ new_cpu 1 ∷ new_cpu 2 ∷ [] }
+    ensures measures_a_vcpu { (tvm_after building (Vcpu 1 2 0xa000)).records ≡ VcpuRecord 2 ∷ [] }
     ensures vcpu_takes_its_page { page_after building (Vcpu 1 2 0xa000) 10 ≡ Given 1 AsVcpu }
     ensures finalize_of_no_tvm { failing building (Finalize 9 0 0) ≡ answers (InvalidParam ∷ Denied ∷ []) }
     ensures finalize_twice { failing running (Finalize 1 0 0) ≡ answers (Denied ∷ []) }
