@@ -1,5 +1,5 @@
 ghost use Rattle.std.specs.Prelude.{◌≡◌, ◌≤◌, ◌<◌, ◌++◌, [], ◌∷◌, List, ℕ, length, slice_get};
-ghost use Rattle.cove_base.specs.Measurement.{Extension, PageRecord, FinalizeRecord, Record, bytes_of_words, extended, extended_at, record_bytes, registers_of};
+ghost use Rattle.cove_base.specs.Measurement.{BoardRecord, Extension, PageRecord, FinalizeRecord, Record, VcpuRecord, bytes_of_words, extended, extended_at, record_bytes, registers_of};
 ghost use Rattle.sha2.specs.Sha512.{sha384};
 
 use byteorder::{ByteOrder, LittleEndian};
@@ -57,6 +57,24 @@ impl Registers {
         self.values[usize::from(i)]
     }
 
+    /// Extends register 0 by the board that the TVM is created on, by its number in the record of a board.
+    pub fn extend_board(&mut self, board: u64)
+        ensures value { self.new ≡ extended_at self.old 0 (record_bytes (BoardRecord board)) }
+        ensures measured { (records : List Record) (extensions : List Extension) → self.old ≡ registers_of records extensions
+            → self.new ≡ registers_of (records ++ BoardRecord board ∷ []) extensions }
+    {
+        self.values[0] = extended(&self.values[0], &board_record(board));
+    }
+
+    /// Extends register 0 by a vCPU, by its number.
+    pub fn extend_vcpu(&mut self, v: u8)
+        ensures value { self.new ≡ extended_at self.old 0 (record_bytes (VcpuRecord v)) }
+        ensures measured { (records : List Record) (extensions : List Extension) → self.old ≡ registers_of records extensions
+            → self.new ≡ registers_of (records ++ VcpuRecord v ∷ []) extensions }
+    {
+        self.values[0] = extended(&self.values[0], &vcpu_record(v));
+    }
+
     /// Extends register 0 by a page at its guest address.
     pub fn extend_page(&mut self, gpa: u64, page: &[u64])
         requires { length page.now ≡ 512 }
@@ -97,6 +115,24 @@ fn extended(register: &[u8; 48], value: &[u8]) -> [u8; 48]
     hasher.update(register.as_slice());
     hasher.update(value);
     hasher.finalize()
+}
+
+// The record of a board: its kind and its number.
+fn board_record(board: u64) -> [u8; 9]
+    ensures { result ≡ record_bytes (BoardRecord board) }
+{
+    let mut record = [4; 9];
+    record[1..].copy_from_slice(&board.to_le_bytes());
+    record
+}
+
+// The record of a vCPU: its kind and its number.
+fn vcpu_record(v: u8) -> [u8; 9]
+    ensures { result ≡ record_bytes (VcpuRecord v) }
+{
+    let mut record = [3; 9];
+    record[1..].copy_from_slice(&u64::from(v).to_le_bytes());
+    record
 }
 
 // The record of a page: its kind, its address and the digest of its bytes.

@@ -1,7 +1,7 @@
 //! Worked examples of the machine with a TVM, which the checker computes; each call by its rule, built or not.
 
 ghost use Rattle.std.specs.Prelude.{◌≡◌, [], ◌∷◌, ◌++◌, map, replicate, Some, None, true, false};
-ghost use Rattle.cove_base.specs.Measurement.{FinalizeRecord};
+ghost use Rattle.cove_base.specs.Measurement.{BoardRecord, FinalizeRecord, PageRecord, VcpuRecord};
 ghost use Rattle.cove_base.specs.declared.calls.GuestAct.TheVariants.{Share};
 ghost use Rattle.cove_base.specs.declared.calls.HostCall.TheVariants.{Convert, Destroy, Finalize, Invalidate, Measured, Remove, Run, TvmFence, Validate, Zero};
 ghost use Rattle.cove_base.specs.declared.events.Event.TheVariants.{Exit};
@@ -12,13 +12,14 @@ ghost use Rattle.cove_model.specs.Examples.{board, refused};
 ghost use Rattle.cove_model.specs.GuestExamples.{bound_cpus, building, refused_by, running, standing_of, tenant, unbound};
 ghost use Rattle.cove_model.specs.GuestCalls.{guest_rule};
 ghost use Rattle.cove_model.specs.HostCalls.{ForgetsGuests, rule};
+ghost use Rattle.cove_model.specs.Measured.{AreBuilt, AreSealed, IsMeasured};
 ghost use Rattle.cove_model.specs.Offers.{Single, is_found, may_succeed, offer, target_of};
 ghost use Rattle.cove_model.specs.Orderly.{AreBoundApart, cpus_of, bound_file_of};
 ghost use Rattle.cove_model.specs.States.{harts_inside, tvm_at};
 ghost use Rattle.cove_model.specs.Owners.{Free, Given, AsRoot, AsState, is_free, page_at};
 ghost use Rattle.cove_model.specs.Pages.{root_of};
 ghost use Rattle.cove_model.specs.Translations.{forgets_by};
-ghost use Rattle.cove_model.specs.Tvms.{Blocked, Present};
+ghost use Rattle.cove_model.specs.Tvms.{Blocked, Present, created};
 
 /// What is refused of a TVM that a hart runs, and what is not.
 pub fn worked_guest_refusals()
@@ -67,6 +68,16 @@ pub fn worked_guest_outcomes()
         ≡ replicate 4 false ++ replicate 3 true ++ replicate 3 false ++ true ∷ false ∷ [] }
     ensures finalized { (tvm_at (rule building 0 (Finalize 1 0x10000 7)).outcome.state 1).records
         ≡ FinalizeRecord 0x10000 7 ∷ [] }
+{}
+
+/// What is measured of a TVM begins with the board's record and ends with its finalize record, and parts stand between them.
+pub fn worked_records()
+    ensures created { IsMeasured 0x20010 (created 1 0x20010) }
+    ensures of_another_board { IsMeasured 0x20010 (created 1 0x10010) → ⊥ }
+    ensures built { AreBuilt 0x20010 (BoardRecord 0x20010 ∷ PageRecord 0x10000 [] ∷ VcpuRecord 0 ∷ []) }
+    ensures without_its_board { AreBuilt 0x20010 (VcpuRecord 0 ∷ []) → ⊥ }
+    ensures sealed { AreSealed 0x20010 (BoardRecord 0x20010 ∷ VcpuRecord 0 ∷ FinalizeRecord 0x10000 7 ∷ []) }
+    ensures unsealed { AreSealed 0x20010 (BoardRecord 0x20010 ∷ VcpuRecord 0 ∷ []) → ⊥ }
 {}
 
 /// Two vCPUs are bound apart where their numbers and their files differ.
