@@ -1,5 +1,5 @@
 use Rattle.cove_base.specs.Evidence.{evidence}
-use Rattle.cove_evidence.proofs.evidence.make.Goals as goal
+use Rattle.cove_evidence.proofs.evidence.sealed.Goals as goal
 
 pub returns-clause-bytes : goal.returns-clause-bytes
 unfolding evidence
