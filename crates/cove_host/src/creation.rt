@@ -1,6 +1,7 @@
 //! The creation of TVMs.
 
 ghost use Rattle.std.specs.Prelude.{◌≡◌, ◌<◌, ℕ};
+ghost use Rattle.cove_base.specs.Measurement.{board_number};
 ghost use Rattle.cove_base.specs.Unchanged.{Unchanged};
 ghost use Rattle.cove_base.specs.declared.calls.HostCall.TheVariants.{Create};
 ghost use Rattle.cove_tvm.specs.Called.{Called, IsReady};
@@ -16,7 +17,7 @@ use cove_base::{HartId, Reply, Role, Status, Words};
 use cove_tvm::Ground;
 
 /// Creates a TVM, with the four pages from the byte address `root` on as the root of its tables, and the page at the byte
-/// address `state` as its state page. Answers its number.
+/// address `state` as its state page, and measures the board. Answers its number.
 pub fn create_tvm<W: Words>(w: &mut W, g: &mut Ground, h: HartId, root: u64, state: u64) -> Reply
     requires ready { IsReady (W.words w.old) g.old }
     requires on_board { h.0 < g.old.harts }
@@ -27,7 +28,7 @@ pub fn create_tvm<W: Words>(w: &mut W, g: &mut Ground, h: HartId, root: u64, sta
     match creatable(w, g, root, state) {
         Err(reply) => reply,
         Ok(()) => {
-            let t = g.tvms.create(page_of(root), page_of(state));
+            let t = g.tvms.create(page_of(root), page_of(state), board_number(g));
             give(w, root, 4, t, Role::Root);
             give(w, state, 1, t, Role::State);
             Reply {
@@ -36,6 +37,13 @@ pub fn create_tvm<W: Words>(w: &mut W, g: &mut Ground, h: HartId, root: u64, sta
             }
         }
     }
+}
+
+// The size of the board, as its record has it.
+fn board_number(g: &Ground) -> u64
+    ensures { result ≡ board_number g.now.pages g.now.harts g.now.filecount }
+{
+    u64::from(g.pages) + 65536 * u64::from(g.harts) + 16777216 * u64::from(g.filecount)
 }
 
 // The checks of the call, in the order of its rule.

@@ -72,7 +72,7 @@ fn add(g: &mut Ground, t: u64, v: u64, page: Page)
     }
 }
 
-// Adds a vCPU to a TVM.
+// Adds a vCPU to a TVM, and measures it.
 fn add_to(tvm: &mut Tvm, v: u64, page: Page)
     requires { v < VCPU_LIMIT }
     ensures { AddsCpu v page.0 tvm.old tvm.new }
@@ -84,6 +84,7 @@ fn add_to(tvm: &mut Tvm, v: u64, page: Page)
         2 => tvm.v2 = slot,
         _ => tvm.v3 = slot,
     }
+    tvm.registers.extend_vcpu(v as u8);
 }
 
 // A vCPU as it is created.

@@ -4,7 +4,7 @@ use Rattle.std.proofs.lemmas.Bool.{false≢true}
 use Rattle.std.proofs.lemmas.Nat.Bits.{bit_at-zero}
 use Rattle.std.specs.Int.{bit_at}
 use Rattle.cove_base.proofs.TreeLemmas.{link-slot}
-use Rattle.cove_model.specs.Machine.{given, table_word, Role, Root, Table, Vcpu, Data, Seat, new_tvm, number_in}
+use Rattle.cove_model.specs.Machine.{given, table_word, Role, Root, Table, Vcpu, Data, Seat, created, number_in}
 use Rattle.cove_base.specs.Tables.{Slot, InRoot, InMiddle, InLast, IsLinkSlot, IsSlot, entry_at, next_table}
 use Rattle.cove_base.specs.declared.numbers.Role.TheVariants.{State}
 use Rattle.cove_imsic.specs.FileTables.{FileTable}
@@ -40,7 +40,7 @@ pub record HasBegun (pages harts : ℕ) (new : List ℕ) (t root state : ℕ) : 
   pub zeros : (p i : ℕ) → root ≤ p → p < root + 4 → i < 512 → get_or new (table_word pages p i) 0 ≡ 0
   pub nobody : (number hart : ℕ) → hart < harts → is_entered_below pages harts new t number hart ≡ false
 
-module _ (pages harts : ℕ) (new : List ℕ) (t root state : ℕ) (begun : HasBegun pages harts new t root state) where
+module _ (pages harts : ℕ) (new : List ℕ) (t root state : ℕ) (begun : HasBegun pages harts new t root state) (size : ℕ) where
   root_zeros : (n : ℕ) → n < 2048 → get_or new (table_word pages root n) 0 ≡ 0
   root_zeros n low =
       let place : table_word pages root n ≡ table_word pages (root + n / 512) (n % 512) = omega arith in
@@ -68,12 +68,12 @@ module _ (pages harts : ℕ) (new : List ℕ) (t root state : ℕ) (begun : HasB
     };
   }
 
-  not_used : (a : Slot) → IsLinkSlot a → uses_slot (new_tvm t) a ≡ false
+  not_used : (a : Slot) → IsLinkSlot a → uses_slot (created t size) a ≡ false
   not_used (InRoot n) slot = refl
   not_used (InMiddle n) slot = refl
   not_used (InLast g) slot = absurd slot
 
-  begun_mappings : AreMappings pages harts new t root [] (new_tvm t)
+  begun_mappings : AreMappings pages harts new t root [] (created t size)
   begun_mappings = record {
     leaf = λ g low. entry_zero (InLast g) low;
     far = λ g high. refl;
@@ -81,7 +81,7 @@ module _ (pages harts : ℕ) (new : List ℕ) (t root state : ℕ) (begun : HasB
     count = refl;
   }
 
-  module _ (seats : ℕ → Option Seat) (files : FileTable) (tvm : Tvm) (fresh : IsNewTvm pages root state tvm) where
+  module _ (seats : ℕ → Option Seat) (files : FileTable) (tvm : Tvm) (fresh : IsNewTvm pages size root state tvm) where
     begun_slot : (v : ℕ) → slot_at tvm v ≡ None
     begun_slot zero = fresh.no_v0
     begun_slot (suc zero) = fresh.no_v1
@@ -103,10 +103,10 @@ module _ (pages harts : ℕ) (new : List ℕ) (t root state : ℕ) (begun : HasB
       found = λ p role on is. begun_found p role (begun.only p role on is);
     }
 
-    begun_fields : AreFields pages harts new t seats files tvm (new_tvm t)
+    begun_fields : AreFields pages harts new t seats files tvm (created t size)
     begun_fields = record {
       life = ap is_runnable fresh.life;
-      regions = subst (λ guests. StandFor guests (new_tvm t)) (sym fresh.regions) none_stand;
+      regions = subst (λ guests. StandFor guests (created t size)) (sym fresh.regions) none_stand;
       near = λ g covered. absurd (outside g (subst (λ guests. IsTrue (covers guests.regions g)) fresh.regions covered));
       registers = fresh.registers;
       allowed = λ id. ap (λ m. eqb (bit_at m id) 1) fresh.allowed ∙ ap (λ b. eqb b 1) (bit_at-zero id);
@@ -117,7 +117,7 @@ module _ (pages harts : ℕ) (new : List ℕ) (t root state : ℕ) (begun : HasB
       outside : (g : ℕ) → IsTrue false → ⊥
       outside g no_region = false≢true no_region
 
-      none_stand : StandFor (record { regions = []; rows = [] }) (new_tvm t)
+      none_stand : StandFor (record { regions = []; rows = [] }) (created t size)
       none_stand = record {
         regions = refl;
         some = λ k d low. absurd (omega arith);
@@ -127,13 +127,13 @@ module _ (pages harts : ℕ) (new : List ℕ) (t root state : ℕ) (begun : HasB
       }
 
     -- a new TVM stands for one of the definitions
-    pub begun_lives : LiveStands pages harts new t seats files tvm (new_tvm t)
+    pub begun_lives : LiveStands pages harts new t seats files tvm (created t size)
     begun_lives = record {
       board = fresh.board;
       room = fresh.room;
       tables = subst (λ r. AreTables pages harts new t r tvm.pool.pages) (sym fresh.root_is) (subst (AreTables pages harts new t root) (sym fresh.pool) begun_tables);
       owned = begun_pages;
-      mappings = subst (λ r. AreMappings pages harts new t r tvm.pool.pages (new_tvm t)) (sym fresh.root_is)
-          (subst (λ pool. AreMappings pages harts new t root pool (new_tvm t)) (sym fresh.pool) begun_mappings);
+      mappings = subst (λ r. AreMappings pages harts new t r tvm.pool.pages (created t size)) (sym fresh.root_is)
+          (subst (λ pool. AreMappings pages harts new t root pool (created t size)) (sym fresh.pool) begun_mappings);
       fields = begun_fields;
     }

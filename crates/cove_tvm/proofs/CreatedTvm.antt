@@ -12,8 +12,8 @@ use Rattle.cove_model.proofs.LeafWords.{given_number, given_role}
 use Rattle.cove_model.proofs.KeyedLemmas.{at_append}
 use Rattle.cove_model.proofs.Runs.{change_cases, change_outside, every_at, length_change, run_cases}
 use Rattle.cove_model.proofs.StandLemmas.{filled_stand, free_page}
-use Rattle.cove_model.specs.States.{State as MonitorState, find_tvm, shared_pages, shown_page}
-use Rattle.cove_model.specs.Tvms.{Tvm as ModelTvm, new_tvm}
+use Rattle.cove_model.specs.States.{State as MonitorState, board_in, find_tvm, shared_pages, shown_page}
+use Rattle.cove_model.specs.Tvms.{Tvm as ModelTvm, created, new_tvm}
 use Rattle.cove_model.specs.WordLaws.{Stand}
 use Rattle.cove_tvm.proofs.BegunTvm.{HasBegun, IsPlaced, begun_lives}
 use Rattle.cove_tvm.proofs.GivenPages.{leaves_twice, none_entered, not_found, not_given, run_leaves}
@@ -49,23 +49,23 @@ found_last (y ∷ xs) x none = go (eqb y.number x.number) refl none (found_last 
     go false e found rest = ap (λ b. cond b (Some y) (at (λ tvm. tvm.number) x.number (xs ++ x ∷ []))) e ∙ rest found
 
 -- a new TVM maps no page
-pub maps_grown : (S : MonitorState) (t p : ℕ) → maps_of (record S { tvms = S.tvms ++ new_tvm t ∷ [] }) p ≡ maps_of S p
-maps_grown S t p =
+pub maps_grown : (S : MonitorState) (t size p : ℕ) → maps_of (record S { tvms = S.tvms ++ created t size ∷ [] }) p ≡ maps_of S p
+maps_grown S t size p =
     ap (count_by (λ q. q == p))
-    (flat_map-append (λ tvm. filter_map (λ mapping. shown_page mapping.backing) tvm.mappings) S.tvms (new_tvm t ∷ [])
+    (flat_map-append (λ tvm. filter_map (λ mapping. shown_page mapping.backing) tvm.mappings) S.tvms (created t size ∷ [])
     ∙ append-nil (shared_pages S))
 
 -- the words of a guest page, by the TVM that is found
 abbrev words_by : (u g : ℕ) → Option ModelTvm → Option (List ℕ)
 words_by u g found = option_and_then (λ mapping. own_words mapping.backing) (mapping_of (unwrap_or found (new_tvm u)) g)
 
-pub words_grown : (S : MonitorState) (t u g : ℕ) (frame : List ℕ) → words_at S u g ≡ Some frame → words_at (record S { tvms = S.tvms ++ new_tvm t ∷ [] }) u g ≡ Some frame
-words_grown S t u g frame is = go (find_tvm S u) refl
+pub words_grown : (S : MonitorState) (t size u g : ℕ) (frame : List ℕ) → words_at S u g ≡ Some frame → words_at (record S { tvms = S.tvms ++ created t size ∷ [] }) u g ≡ Some frame
+words_grown S t size u g frame is = go (find_tvm S u) refl
   where
-    go : (v : Option ModelTvm) → find_tvm S u ≡ v → words_at (record S { tvms = S.tvms ++ new_tvm t ∷ [] }) u g ≡ Some frame
+    go : (v : Option ModelTvm) → find_tvm S u ≡ v → words_at (record S { tvms = S.tvms ++ created t size ∷ [] }) u g ≡ Some frame
     go None none = absurd (none-some frame (sym (ap (words_by u g) none) ∙ is))
     go (Some v) some =
-        ap (words_by u g) (at_append (λ tvm. tvm.number) u S.tvms (new_tvm t ∷ []) v some) ∙ sym (ap (words_by u g) some) ∙ is
+        ap (words_by u g) (at_append (λ tvm. tvm.number) u S.tvms (created t size ∷ []) v some) ∙ sym (ap (words_by u g) some) ∙ is
 
 -- ---- frames
 
@@ -114,11 +114,11 @@ module _ (words : List ℕ) (ground : Ground) (S : MonitorState) (root state : �
   abbrev rooted : List ℕ
   rooted = stored words (fills (root / 4096) 4 (given (S.made + 1) Root))
 
-  abbrev created : List ℕ
-  created = stored (stored words (fills (root / 4096) 4 (given (S.made + 1) Root))) (fills (state / 4096) 1 (given (S.made + 1) State))
+  abbrev new_words : List ℕ
+  new_words = stored (stored words (fills (root / 4096) 4 (given (S.made + 1) Root))) (fills (state / 4096) 1 (given (S.made + 1) State))
 
   abbrev grown : MonitorState
-  grown = record S { tvms = S.tvms ++ new_tvm (S.made + 1) ∷ []; made = S.made + 1 }
+  grown = record S { tvms = S.tvms ++ created (S.made + 1) (board_in S) ∷ []; made = S.made + 1 }
 
   abbrev rooted_state : MonitorState
   rooted_state = record grown { pages = change (given_to (S.made + 1) AsRoot) (root / 4096) 4 S.pages }
@@ -151,7 +151,7 @@ module _ (words : List ℕ) (ground : Ground) (S : MonitorState) (root state : �
   numbered = let room = may.room in (omega arith, omega arith)
 
   grown_stand : Stand ground.pages ground.harts words grown
-  grown_stand = stand_kept ground.pages ground.harts words S (S.tvms ++ new_tvm t ∷ []) t (maps_grown S t) stands.words_stand
+  grown_stand = stand_kept ground.pages ground.harts words S (S.tvms ++ created t (board_in S) ∷ []) t (maps_grown S t (board_in S)) stands.words_stand
 
   rooted_stand : Stand ground.pages ground.harts rooted rooted_state
   rooted_stand =
@@ -164,7 +164,7 @@ module _ (words : List ℕ) (ground : Ground) (S : MonitorState) (root state : �
   apart_from : (p : ℕ) → place ≤ p → p < place + 1 → (p < first) ⊎ (first + 4 ≤ p)
   apart_from p low high = elim may.apart [ inl under ↦ inl (omega arith) | inr over ↦ inr (omega arith) ]
 
-  created_stand : Stand ground.pages ground.harts created (effect S 0 (Create root state))
+  created_stand : Stand ground.pages ground.harts new_words (effect S 0 (Create root state))
   created_stand =
       filled_stand ground.pages ground.harts rooted rooted_state (given_to t AsState) place 1 (given t State) may.state_inside (table_given t AsState)
       (λ p low high on.
@@ -181,7 +181,7 @@ module _ (words : List ℕ) (ground : Ground) (S : MonitorState) (root state : �
         ∙ sym (length_change (given_to t AsState) place 1 rooted_state.pages ∙ length_change (given_to t AsRoot) first 4 S.pages);
     frame = λ p on.
         let frame = get_or ground.memory p [] in
-        let old = frame_kept S (record S { tvms = S.tvms ++ new_tvm t ∷ [] }) frame (page_at S.pages p) (λ u g. words_grown S t u g frame) (stands.frames.frame p on) in
+        let old = frame_kept S (record S { tvms = S.tvms ++ created t (board_in S) ∷ [] }) frame (page_at S.pages p) (λ u g. words_grown S t (board_in S) u g frame) (stands.frames.frame p on) in
         let first_is : FrameStands grown frame (page_at rooted_state.pages p) = elim (change_cases (given_to t AsRoot) first 4 S.pages p) [
           | inl same ↦ subst (FrameStands grown frame) (sym same) old
           | inr gives ↦ subst (FrameStands grown frame) (sym gives) (frame_given grown t AsRoot frame (page_at S.pages p) tt old)
@@ -193,13 +193,13 @@ module _ (words : List ℕ) (ground : Ground) (S : MonitorState) (root state : �
   }
 
   -- every other TVM is left
-  created_leaves : (u : ℕ) → u ≢ t → u ≤ TVM_LIMIT → LeavesTvm ground.pages ground.harts words created u
+  created_leaves : (u : ℕ) → u ≢ t → u ≤ TVM_LIMIT → LeavesTvm ground.pages ground.harts words new_words u
   created_leaves u other few =
       let size = size_is in
       let again = length-stored words (fills first 4 (given t Root)) in
       let inside = may.root_inside in
       let state_inside = may.state_inside in
-      leaves_twice ground.pages ground.harts u words rooted created
+      leaves_twice ground.pages ground.harts u words rooted new_words
       (run_leaves ground.pages ground.harts u words first 4 (given t Root) few may.root_inside (omega arith)
       (λ p role low high. free_word p u role (omega arith) (root_free p low high))
       (λ role e. other (sym (given_number t u Root role e))))
@@ -211,20 +211,20 @@ module _ (words : List ℕ) (ground : Ground) (S : MonitorState) (root state : �
       (λ role e. other (sym (given_number t u State role e))))
 
   -- the words past the page words stay
-  behind : (at : ℕ) → ground.pages ≤ at → get_or created at 0 ≡ get_or words at 0
+  behind : (at : ℕ) → ground.pages ≤ at → get_or new_words at 0 ≡ get_or words at 0
   behind at past =
       let inside = may.root_inside in
       let state_inside = may.state_inside in
       get_or-fills_other rooted place 1 (given t State) at (inr (omega arith)) ∙ get_or-fills_other words first 4 (given t Root) at (inr (omega arith))
 
-  root_kept : (p : ℕ) → first ≤ p → p < first + 4 → get_or created p 0 ≡ given t Root
+  root_kept : (p : ℕ) → first ≤ p → p < first + 4 → get_or new_words p 0 ≡ given t Root
   root_kept p low high =
       let inside = may.root_inside in
       let size = size_is in
       get_or-fills_other rooted place 1 (given t State) p (elim may.apart [ inl under ↦ inr (omega arith) | inr over ↦ inl (omega arith) ])
       ∙ get_or-fills words first 4 (given t Root) p low high (omega arith)
 
-  state_kept : get_or created place 0 ≡ given t State
+  state_kept : get_or new_words place 0 ≡ given t State
   state_kept =
       let inside = may.state_inside in
       let size = size_is in
@@ -232,11 +232,11 @@ module _ (words : List ℕ) (ground : Ground) (S : MonitorState) (root state : �
       get_or-fills rooted place 1 (given t State) place (omega arith) (omega arith) (omega arith)
 
   module _ (orderly : IsOrderly S) (seated : IsSeated S) (fences : FencesWithin ground.pages ground.harts words ENTRY_LIMIT) where
-    only : (p : ℕ) (role : Role) → p < ground.pages → get_or created p 0 ≡ given t role → IsPlaced first place p role
+    only : (p : ℕ) (role : Role) → p < ground.pages → get_or new_words p 0 ≡ given t role → IsPlaced first place p role
     only p role on is = elim (run_cases place 1 p) [
       | inl run ↦
           let here : place ≡ p = omega (arith, run.0, run.1) in
-          state_placed t first place p role (sym (ap (λ k. get_or created k 0) (sym here) ∙ state_kept) ∙ is) here
+          state_placed t first place p role (sym (ap (λ k. get_or new_words k 0) (sym here) ∙ state_kept) ∙ is) here
       | inr out ↦ elim (run_cases first 4 p) [
         | inl run ↦ root_placed t first place p role (sym (root_kept p run.0 run.1) ∙ is) run
         | inr off ↦ absurd
@@ -245,7 +245,7 @@ module _ (words : List ℕ) (ground : Ground) (S : MonitorState) (root state : �
       ]
     ]
 
-    begun : HasBegun ground.pages ground.harts created t first place
+    begun : HasBegun ground.pages ground.harts new_words t first place
     begun =
         let size = size_is in
         let again = length-stored words (fills first 4 (given t Root)) in
@@ -267,7 +267,7 @@ module _ (words : List ℕ) (ground : Ground) (S : MonitorState) (root state : �
               ∙ none_entered words ground S t stands (omega arith) seated fences number hart on;
         }
 
-    module _ (tvm : Tvm) (fresh : IsNewTvm ground.pages first place tvm) where
+    module _ (tvm : Tvm) (fresh : IsNewTvm ground.pages (board_in S) first place tvm) where
       abbrev table : TvmTable
       table = with_new ground.tvms tvm
 
@@ -279,8 +279,8 @@ module _ (words : List ℕ) (ground : Ground) (S : MonitorState) (root state : �
           ap (live_at table) next_is ∙ added_here ground.tvms.pages ground.tvms.tvms tvm
           ∙ ap (λ life. cond (is_gone life) None (Some tvm)) fresh.life
 
-      found_is : find_tvm (effect S 0 (Create root state)) t ≡ Some (new_tvm t)
-      found_is = found_last S.tvms (new_tvm t) (not_found words ground S t stands (omega arith))
+      found_is : find_tvm (effect S 0 (Create root state)) t ≡ Some (created t (board_in S))
+      found_is = found_last S.tvms (created t (board_in S)) (not_found words ground S t stands (omega arith))
 
       board_is : BoardStands (record ground { memory = ground.memory; tvms = table }) (effect S 0 (Create root state))
       board_is = record {
@@ -294,26 +294,26 @@ module _ (words : List ℕ) (ground : Ground) (S : MonitorState) (root state : �
         few = numbered.1;
       }
 
-      created_all : Stands created (record ground { tvms = table }) (effect S 0 (Create root state))
+      created_all : Stands new_words (record ground { tvms = table }) (effect S 0 (Create root state))
       created_all =
-          one_tvm_stands t words created ground ground.memory table S (effect S 0 (Create root state)) stands
+          one_tvm_stands t words new_words ground ground.memory table S (effect S 0 (Create root state)) stands
           (record {
             words_leave = created_leaves;
             same_live = λ u other. added_elsewhere ground.tvms.pages ground.tvms.tvms tvm u (λ e. other (e ∙ sym next_is));
-            same_state = λ u other. found_before S.tvms (new_tvm t) u (λ e. other (sym e));
+            same_state = λ u other. found_before S.tvms (created t (board_in S)) u (λ e. other (sym e));
             seats = refl;
           })
           (record {
             words_stand = created_stand;
             frames_stand = created_frames;
             board = board_is;
-            own = subst (λ live. TvmStands ground.pages ground.harts created t S.seats ground.files live (find_tvm (effect S 0 (Create root state)) t)) (sym live_is)
-                (subst (TvmStands ground.pages ground.harts created t S.seats ground.files (Some tvm)) (sym found_is)
-                (begun_lives ground.pages ground.harts created t first place begun S.seats ground.files tvm fresh));
+            own = subst (λ live. TvmStands ground.pages ground.harts new_words t S.seats ground.files live (find_tvm (effect S 0 (Create root state)) t)) (sym live_is)
+                (subst (TvmStands ground.pages ground.harts new_words t S.seats ground.files (Some tvm)) (sym found_is)
+                (begun_lives ground.pages ground.harts new_words t first place begun (board_in S) S.seats ground.files tvm fresh));
             counted = λ p on.
-                shared_kept ground.pages words created p (length-stored rooted (fills place 1 (given t State)) ∙ length-stored words (fills first 4 (given t Root)))
+                shared_kept ground.pages words new_words p (length-stored rooted (fills place 1 (given t State)) ∙ length-stored words (fills first 4 (given t Root)))
                 (λ at low high. behind at low)
-                ∙ stands.counted p on ∙ sym (maps_grown S t p);
+                ∙ stands.counted p on ∙ sym (maps_grown S t (board_in S) p);
           })
 
 pub create_stands : CreateStands

@@ -3,6 +3,7 @@ use Rattle.std.proofs.Common.{◌≡◌, ◌≢◌, ℕ, suc, ◌+◌, ◌/◌, 
 use Rattle.std.proofs.lemmas.Bool.{cases_eq, eq-eqb}
 use Rattle.std.proofs.lemmas.Option.{none-some, same_Some}
 use Rattle.cove_base.proofs.StoreLemmas.{get_or-fills_other}
+use Rattle.cove_base.specs.Measurement.{VcpuRecord}
 use Rattle.cove_base.specs.InterruptFiles.{empty_file}
 use Rattle.cove_model.specs.Machine.{given, fills, stored, Role, Root, Table, Vcpu, Data, rule, at, AsVcpu, IsSeated}
 use Rattle.cove_base.specs.declared.calls.HostCall.TheVariants.{Vcpu as VcpuCall}
@@ -56,7 +57,7 @@ module _ (words : List ℕ) (G : Ground) (S : MonitorState) (k v state : ℕ) (o
   added = stored words (fills (state / 4096) 1 (given (suc k) Vcpu))
 
   abbrev how : ModelTvm → ModelTvm
-  how tvm = record tvm { cpus = tvm.cpus ++ new_cpu v ∷ [] }
+  how tvm = record tvm { cpus = tvm.cpus ++ new_cpu v ∷ []; records = tvm.records ++ VcpuRecord v ∷ [] }
 
   page_kept : (p : ℕ) → state / 4096 ≤ p → p < state / 4096 + 1 → get_or added p 0 ≡ given (suc k) Vcpu
   page_kept = run_word words G S k state 1 AsVcpu old model may
@@ -71,7 +72,7 @@ module _ (words : List ℕ) (G : Ground) (S : MonitorState) (k v state : ℕ) (o
 
   module _ (seated : IsSeated S) (none : find_cpu model v ≡ None) (adds : AddsCpu v (state / 4096) old new) where
     abbrev renewed : Tvm
-    renewed = record old { v0 = new.v0; v1 = new.v1; v2 = new.v2; v3 = new.v3 }
+    renewed = record old { registers = new.registers; v0 = new.v0; v1 = new.v1; v2 = new.v2; v3 = new.v3 }
 
     same_slots : (u : ℕ) → slot_at renewed u ≡ slot_at new u
     same_slots u = ap (λ (tvm : Tvm). slot_at tvm u) (sym adds.rest)
@@ -157,7 +158,7 @@ module _ (words : List ℕ) (G : Ground) (S : MonitorState) (k v state : ℕ) (o
             life = kept.life;
             regions = record { regions = kept.regions.regions; some = kept.regions.some; shared = kept.regions.shared; each_once = kept.regions.each_once; inside = kept.regions.inside };
             near = kept.near;
-            registers = kept.registers;
+            registers = adds.measured model.records model.extensions kept.registers;
             allowed = kept.allowed;
             yet = kept.yet;
             cpu = cpus_stand;

@@ -11,7 +11,7 @@ use Rattle.cove_model.specs.LawfulStores.{IsLawful}
 use Rattle.cove_model.specs.Orderly.{IsOrderly}
 use Rattle.cove_model.specs.Owners.{every, is_free}
 use Rattle.cove_model.specs.Seated.{IsSeated}
-use Rattle.cove_model.specs.States.{State as MonitorState}
+use Rattle.cove_model.specs.States.{State as MonitorState, board_in}
 use Rattle.cove_model.specs.WordsStand.{FencesWithin}
 use Rattle.cove_tvm.specs.Stands.{Stands}
 use Rattle.cove_tvm.specs.TvmTables.{IsNewTvm, TvmTable}
@@ -41,7 +41,7 @@ abbrev pub CreateStands : Type 0
 CreateStands =
     (words : List ℕ) (G : Ground) (S : MonitorState) (hart root state : ℕ) (tvm : Tvm)
     → Stands words G S → IsOrderly S → IsSeated S → FencesWithin G.pages G.harts words ENTRY_LIMIT
-    → MayCreate G.pages root state S → IsNewTvm G.pages (root / 4096) (state / 4096) tvm
+    → MayCreate G.pages root state S → IsNewTvm G.pages (board_in S) (root / 4096) (state / 4096) tvm
     → Stands (stored words (create_stores (S.made + 1) root state)) (record G { tvms = with_new G.tvms tvm })
     (effect S hart (Create root state))
 

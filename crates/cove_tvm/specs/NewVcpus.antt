@@ -1,6 +1,7 @@
 -- What a new vCPU is, and that words and ground stand after one was added.
-use Rattle.std.specs.Prelude.{◌≡◌, ◌≢◌, ℕ, suc, ◌/◌, List, Some, None, replicate}
+use Rattle.std.specs.Prelude.{◌≡◌, ◌≢◌, ℕ, suc, ◌/◌, ◌++◌, List, [], ◌∷◌, Some, None, replicate}
 use Rattle.cove_base.specs.InterruptFiles.{empty_file}
+use Rattle.cove_base.specs.Measurement.{Extension, Record, VcpuRecord, registers_of}
 use Rattle.cove_base.specs.PageWords.{given}
 use Rattle.cove_base.specs.Places.{page_word}
 use Rattle.cove_base.specs.Registers.{registers}
@@ -30,13 +31,16 @@ pub record IsNewCpu (page : ℕ) (slot : VcpuSlot) : Type 0 where
   pub saved : slot.saved ≡ empty_file
   pub page_is : slot.page.0 ≡ page
 
--- a TVM has a new vCPU with a number, and all else stays
+-- a TVM has a new vCPU with a number, which is measured, and all else stays
 pub record AddsCpu (v page : ℕ) (old new : Tvm) : Type 0 where
   pub slot : VcpuSlot
   pub there : slot_at new v ≡ Some slot
   pub begins : IsNewCpu page slot
   pub others : (u : ℕ) → u ≢ v → slot_at new u ≡ slot_at old u
-  pub rest : new ≡ record old { v0 = new.v0; v1 = new.v1; v2 = new.v2; v3 = new.v3 }
+  pub measured :
+      (records : List Record) (extensions : List Extension) → old.registers ≡ registers_of records extensions
+      → new.registers ≡ registers_of (records ++ VcpuRecord v ∷ []) extensions
+  pub rest : new ≡ record old { registers = new.registers; v0 = new.v0; v1 = new.v1; v2 = new.v2; v3 = new.v3 }
 
 -- the page is given to the TVM
 abbrev pub vcpu_stores : (t state : ℕ) → List (ℕ × ℕ)

@@ -1,7 +1,7 @@
 -- Every TVM that was created, by its number.
-use Rattle.std.specs.Prelude.{◌≡◌, ◌+◌, ◌≤◌, ℕ, zero, suc, List, [], length, Option, Some, None, slice_get, if◌then◌else◌}
+use Rattle.std.specs.Prelude.{◌≡◌, ◌+◌, ◌≤◌, ℕ, zero, suc, List, [], ◌∷◌, length, Option, Some, None, slice_get, if◌then◌else◌}
 use Rattle.std.specs.List.{All}
-use Rattle.cove_base.specs.Measurement.{registers_of}
+use Rattle.cove_base.specs.Measurement.{BoardRecord, registers_of}
 use Rattle.cove_base.specs.declared.limits.TheConstants.{PAGE_LIMIT, TVM_LIMIT}
 use Rattle.cove_stage2.specs.MapStores.{Pages}
 use Rattle.cove_tvm.specs.Lives.{is_gone}
@@ -23,11 +23,11 @@ abbrev pub live_at : TvmTable → (t : ℕ) → Option Tvm
 live_at table zero = None
 live_at table (suc k) = unless_gone (slice_get table.tvms k)
 
--- a TVM as it is created, on a board of so many pages
-pub record IsNewTvm (pages root state : ℕ) (tvm : Tvm) : Type 0 where
+-- a TVM as it is created, on a board of so many pages and of this size in its record
+pub record IsNewTvm (pages size root state : ℕ) (tvm : Tvm) : Type 0 where
   pub life : tvm.life ≡ Building
   pub regions : tvm.regions ≡ record { regions = []; rows = [] }
-  pub registers : tvm.registers ≡ registers_of [] []
+  pub registers : tvm.registers ≡ registers_of (BoardRecord size ∷ []) []
   pub allowed : tvm.allowed ≡ 0
   pub board : tvm.tables.pages ≡ pages
   pub root_is : tvm.tables.root.0 ≡ root

@@ -76,12 +76,12 @@ impl Tvms {
         }
     }
 
-    /// Adds a TVM that is being built: with no region, no vCPU, registers that nothing extended yet, an empty pool, and tables
-    /// whose root begins at a page.
-    pub fn create(&mut self, root: Page, state: Page) -> TvmId
+    /// Adds a TVM that is being built: with no region, no vCPU, register 0 extended by the board's record alone, an empty pool,
+    /// and tables whose root begins at a page. The board is told by its number in that record.
+    pub fn create(&mut self, root: Page, state: Page, board: u64) -> TvmId
         requires { length self.old.tvms < TVM_LIMIT }
         ensures number { result.0 ≡ length self.old.tvms + 1 }
-        ensures added { (tvm : Tvm) × IsNewTvm self.old.pages root.0 state.0 tvm × (self.new.tvms ≡ self.old.tvms ++ tvm ∷ []) }
+        ensures added { (tvm : Tvm) × IsNewTvm self.old.pages board root.0 state.0 tvm × (self.new.tvms ≡ self.old.tvms ++ tvm ∷ []) }
         ensures pages { self.new.pages ≡ self.old.pages }
     {
         let Some(pool) = self.spare.pop() else {
@@ -91,7 +91,7 @@ impl Tvms {
             root,
             pages: self.pages,
         };
-        self.tvms.push_reserved(building(tables, state, pool));
+        self.tvms.push_reserved(building(tables, state, pool, board));
         TvmId(self.tvms.len() as u32)
     }
 
@@ -105,15 +105,17 @@ impl Tvms {
     }
 }
 
-// A TVM that is being built, without anything yet.
-fn building(tables: Tables, state: Page, pool: Pool) -> Tvm
+// A TVM that is being built on a board, without anything yet.
+fn building(tables: Tables, state: Page, pool: Pool, board: u64) -> Tvm
     requires { IsEmptyPool tables.pages pool }
-    ensures { IsNewTvm tables.pages tables.root.0 state.0 result }
+    ensures { IsNewTvm tables.pages board tables.root.0 state.0 result }
 {
+    let mut registers = Registers::new();
+    registers.extend_board(board);
     Tvm {
         life: Life::Building,
         regions: Regions::new(),
-        registers: Registers::new(),
+        registers,
         allowed: 0,
         tables,
         pool,
