@@ -21,7 +21,7 @@ page_words = host 0 ∷ host 0 ∷ given 1 Data ∷ released ∷ given 1 Root �
 rooted_zero : (place : ℕ) → 8 ≤ place → get_or rooted place 0 ≡ 0
 rooted_zero place past = get_or-append_right page_words (replicate (all_words 8 1 - 8) 0) 8 place 0 refl past ∙ replicate_zero (all_words 8 1 - 8) (place - 8)
 
-size : length rooted ≡ 4125
+size : length rooted ≡ 4173
 size = refl
 
 -- no slot below any root has an entry
@@ -112,7 +112,7 @@ pub leaving : IsBeingCleared 8 1 rooted 1 4 (2 ∷ [])
 leaving = record { clearable = clearable; gathered = gathered; counted = counted }
 
 pub not_inside : IsBeingCleared 8 1 entered_words 1 4 (2 ∷ []) → ⊥
-not_inside going = going.clearable.left 0 (omega arith) (0, (omega arith, get_or-set_same rooted 4123 (2 ^ 32) 0 (omega (arith, size))))
+not_inside going = going.clearable.left 0 (omega arith) (0, (omega arith, get_or-set_same rooted 4171 (2 ^ 32) 0 (omega (arith, size))))
 
 pub not_miscounted : IsBeingCleared 8 1 (set rooted 0 (host 1)) 1 4 (2 ∷ []) → ⊥
 not_miscounted going =

@@ -8,4 +8,7 @@
 mod evidence;
 mod pieces;
 
-pub use evidence::{Evidence, EvidenceFault, check, evidence_is_read_back, evidence_v1_is_read_back, make, make_v1, read};
+pub use evidence::{
+    Evidence, EvidenceFault, check, evidence_is_read_back, evidence_v1_is_read_back, make, make_v1,
+    read,
+};

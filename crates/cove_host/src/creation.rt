@@ -28,7 +28,8 @@ pub fn create_tvm<W: Words>(w: &mut W, g: &mut Ground, h: HartId, root: u64, sta
     match creatable(w, g, root, state) {
         Err(reply) => reply,
         Ok(()) => {
-            let t = g.tvms.create(page_of(root), page_of(state), board_number(g));
+            let board = board_number(g);
+            let t = g.tvms.create(page_of(root), page_of(state), board);
             give(w, root, 4, t, Role::Root);
             give(w, state, 1, t, Role::State);
             Reply {

@@ -76,10 +76,10 @@ pub no_hart : IsReady small_words (record small_ground { harts = 0 }) → ⊥
 no_hart is = let some : 0 < 0 = is.some_hart in omega arith
 
 pub last_epoch : IsReady (set small_words (epoch_word 1) ENTRY_LIMIT) small_ground → ⊥
-last_epoch is = let few : 100000 ≤ 99999 = is.fences.epoch in omega arith
+last_epoch is = let few : 200000 ≤ 199999 = is.fences.epoch in omega arith
 
 pub without_words : IsReady [] small_ground → ⊥
-without_words is = let size : ◌≡◌ {A = ℕ} 0 534 = is.stands.words_stand.stands.size in omega arith
+without_words is = let size : ◌≡◌ {A = ℕ} 0 582 = is.stands.words_stand.stands.size in omega arith
 
 -- ---- calls
 

@@ -27,7 +27,7 @@ first_words = given 1 Table ∷ given 1 Table ∷ given 1 Data ∷ host 1 ∷ gi
 past_pages : (place : ℕ) → 8 ≤ place → get_or mappable place 0 ≡ 0
 past_pages place past = get_or-append_right first_words (replicate (all_words 8 1 - 8) 0) 8 place 0 refl past ∙ replicate_zero (all_words 8 1 - 8) (place - 8)
 
-long : length mappable ≡ 4125
+long : length mappable ≡ 4173
 long = refl
 
 no_root : (n : ℕ) → n < 2048 → get_or mappable (table_word 8 4 n) 0 ≡ 0

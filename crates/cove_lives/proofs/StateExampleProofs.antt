@@ -3,7 +3,7 @@ use Rattle.std.proofs.Common.{◌≡◌, ◌≢◌, ℕ, zero, suc, ◌+◌, ◌
 use Rattle.std.proofs.lemmas.List.{get_or-append_right}
 use Rattle.std.proofs.lemmas.Option.{same_Some}
 use Rattle.cove_base.specs.InterruptFiles.{InterruptFile}
-use Rattle.cove_model.specs.Machine.{given, host, all_words, hart_word, table_word, Role, Root, Table, Vcpu, Data, Within, Seat, new_cpu, Begun, NotBegun, new_tvm}
+use Rattle.cove_model.specs.Machine.{given, host, all_words, hart_word, table_word, Role, Root, Table, Vcpu, Data, Within, Seat, new_cpu, Begun, NotBegun, created, new_tvm}
 use Rattle.cove_base.specs.TableWords.{blocked}
 use Rattle.cove_base.specs.Tables.{Slot, IsLinkSlot, entry_at, next_table, present}
 use Rattle.cove_base.specs.declared.numbers.Role.TheVariants.{State}
@@ -84,7 +84,7 @@ has_begun = record {
   nobody = outside;
 }
 
-pub begun_is_new : (tables : Tables) → tables.root.0 ≡ 4 → tables.pages ≡ 9 → IsNewTvm 9 4 8 (begun tables)
+pub begun_is_new : (tables : Tables) → tables.root.0 ≡ 4 → tables.pages ≡ 9 → IsNewTvm 9 0x10009 4 8 (begun tables)
 begun_is_new tables root pages = record {
   life = refl;
   regions = refl;
@@ -102,19 +102,19 @@ begun_is_new tables root pages = record {
 }
 
 pub new : (seats : ℕ → Option Seat) (files : FileTable) (tables : Tables) → tables.root.0 ≡ 4 → tables.pages ≡ 9
-    → LiveStands 9 1 begun_words 1 seats files (begun tables) (new_tvm 1)
-new seats files tables root pages = begun_lives 9 1 begun_words 1 4 8 has_begun seats files (begun tables) (begun_is_new tables root pages)
+    → LiveStands 9 1 begun_words 1 seats files (begun tables) (created 1 0x10009)
+new seats files tables root pages = begun_lives 9 1 begun_words 1 4 8 has_begun 0x10009 seats files (begun tables) (begun_is_new tables root pages)
 
 pub finalized : (files : FileTable) (tables : Tables)
-    → LiveStands 9 1 begun_words 1 nowhere files (begun tables) (record (new_tvm 1) { runnable = true }) → ⊥
+    → LiveStands 9 1 begun_words 1 nowhere files (begun tables) (record (created 1 0x10009) { runnable = true }) → ⊥
 finalized files tables stands = true≢false (sym stands.fields.life)
 
 pub injected : (files : FileTable) (tables : Tables)
-    → LiveStands 9 1 begun_words 1 nowhere files (begun tables) (record (new_tvm 1) { allowed = 5 ∷ [] }) → ⊥
+    → LiveStands 9 1 begun_words 1 nowhere files (begun tables) (record (created 1 0x10009) { allowed = 5 ∷ [] }) → ⊥
 injected files tables stands = true≢false (sym (stands.fields.allowed 5))
 
 pub has_vcpu : (files : FileTable) (tables : Tables)
-    → LiveStands 9 1 begun_words 1 nowhere files (begun tables) (record (new_tvm 1) { cpus = new_cpu 0 ∷ [] }) → ⊥
+    → LiveStands 9 1 begun_words 1 nowhere files (begun tables) (record (created 1 0x10009) { cpus = new_cpu 0 ∷ [] }) → ⊥
 has_vcpu files tables stands = stands.fields.cpu 0
 
 abbrev one_more : List ℕ
@@ -124,7 +124,7 @@ more_past : (n : ℕ) → n < 2048 → get_or one_more (table_word 9 4 n) 0 ≡ 
 more_past n low = get_or-set_other begun_words 3 (table_word 9 4 n) (given 1 Table) 0 (omega arith) ∙ past_pages (table_word 9 4 n) (omega arith)
 
 pub lost_page : (files : FileTable) (tables : Tables) → tables.root.0 ≡ 4
-    → LiveStands 9 1 one_more 1 nowhere files (begun tables) (new_tvm 1) → ⊥
+    → LiveStands 9 1 one_more 1 nowhere files (begun tables) (created 1 0x10009) → ⊥
 lost_page files tables root stands = elim (stands.owned.found 3 Table (omega arith) refl) [
   | inl spare ↦ let low : spare.0 < 0 = spare.1 in omega arith
   | inr named ↦ not_named named.0 named.1 (subst (λ r. entry_at 9 r one_more named.0 ≡ next_table 3) root named.2)

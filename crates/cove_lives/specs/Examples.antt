@@ -1,6 +1,6 @@
 -- Small words, mappings and states, for worked examples.
 use Rattle.std.specs.Prelude.{ℕ, ◌+◌, ◌*◌, ◌^◌, List, [], ◌∷◌, ◌++◌, replicate, None}
-use Rattle.cove_base.specs.Measurement.{registers_of}
+use Rattle.cove_base.specs.Measurement.{BoardRecord, registers_of}
 use Rattle.cove_model.specs.Owners.{Free}
 use Rattle.cove_model.specs.States.{State}
 use Rattle.cove_model.specs.Tvms.{OwnPage, Present, Mapping}
@@ -42,7 +42,7 @@ abbrev pub begun : Tables → Tvm
 begun tables = record {
   life = Building;
   regions = record { regions = []; rows = [] };
-  registers = registers_of [] [];
+  registers = registers_of (BoardRecord 0x10009 ∷ []) [];
   allowed = 0;
   tables = tables;
   pool = record { pages = []; room = 9 };

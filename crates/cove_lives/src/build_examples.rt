@@ -24,11 +24,12 @@ ghost use Rattle.cove_tvm.specs.declared.vcpus.VcpuSlot.{VcpuSlot};
 
 /// A TVM begins unfinished, with its root and its state page, and without a vCPU or an interrupt that may be injected.
 pub fn worked_beginning()
-    ensures begun { (tables : Tables) → tables.root.0 ≡ 4 → tables.pages ≡ 9 → IsNewTvm 9 4 8 (begun tables) }
-    ensures another_root { (tables : Tables) → tables.root.0 ≡ 5 → IsNewTvm 9 4 8 (begun tables) → ⊥ }
-    ensures finalized { (tables : Tables) → IsNewTvm 9 4 8 (record (begun tables) { life = Runnable }) → ⊥ }
-    ensures has_vcpu { (tables : Tables) (slot : VcpuSlot) → IsNewTvm 9 4 8 (record (begun tables) { v3 = Some slot }) → ⊥ }
-    ensures may_inject { (tables : Tables) → IsNewTvm 9 4 8 (record (begun tables) { allowed = 1 }) → ⊥ }
+    ensures begun { (tables : Tables) → tables.root.0 ≡ 4 → tables.pages ≡ 9 → IsNewTvm 9 0x10009 4 8 (begun tables) }
+    ensures another_root { (tables : Tables) → tables.root.0 ≡ 5 → IsNewTvm 9 0x10009 4 8 (begun tables) → ⊥ }
+    ensures another_board { (tables : Tables) → IsNewTvm 9 0x20009 4 8 (begun tables) → ⊥ }
+    ensures finalized { (tables : Tables) → IsNewTvm 9 0x10009 4 8 (record (begun tables) { life = Runnable }) → ⊥ }
+    ensures has_vcpu { (tables : Tables) (slot : VcpuSlot) → IsNewTvm 9 0x10009 4 8 (record (begun tables) { v3 = Some slot }) → ⊥ }
+    ensures may_inject { (tables : Tables) → IsNewTvm 9 0x10009 4 8 (record (begun tables) { allowed = 1 }) → ⊥ }
 {}
 
 /// The page word of a page that is given says the TVM and what it is for.

@@ -50,10 +50,10 @@ not_while_blocked true e = absurd (omega arith)
 -- ---- slots
 
 pub no_entry : entry_at 8 4 zero_words (InRoot 0) ≡ 0
-no_entry = zeros-absent 8 4 4125 zero_words refl (omega arith) (omega arith) (InRoot 0) (omega arith)
+no_entry = zeros-absent 8 4 4173 zero_words refl (omega arith) (omega arith) (InRoot 0) (omega arith)
 
 no_middle : (n : ℕ) → n < 2 ^ 20 → entry_at 8 4 zero_words (InMiddle n) ≡ 0
-no_middle n low = zeros-absent 8 4 4125 zero_words refl (omega arith) (omega arith) (InMiddle n) low
+no_middle n low = zeros-absent 8 4 4173 zero_words refl (omega arith) (omega arith) (InMiddle n) low
 
 -- a run lacks a table of each level, or two of the lower
 lacking : (a : ℕ) → a ≡ 0 → flag (a == 0) ≡ 1
@@ -85,8 +85,8 @@ left =
     ap (λ x. pool_after (entry_at 8 4 zero_words (InMiddle 0)) (pool_after x (1 ∷ 2 ∷ 3 ∷ []))) no_entry
     ∙ ap (λ x. pool_after x (1 ∷ 2 ∷ [])) (no_middle 0 (omega arith))
 
-pub zero_word : (place : ℕ) → place < 4125 → get_or zero_words place 0 ≡ 0
-zero_word place below = get_or-replicate 4125 place 0 0 below
+pub zero_word : (place : ℕ) → place < 4173 → get_or zero_words place 0 ≡ 0
+zero_word place below = get_or-replicate 4173 place 0 0 below
 
 pub no_table : (words : List ℕ) → IsRoot 8 words 1 4 → ((a : Slot) → IsLinkSlot a → entry_at 8 4 words a ≡ 0) → AreGiven 8 words 1 4 []
 no_table words is none = record {

@@ -91,7 +91,8 @@ impl Tvms {
             root,
             pages: self.pages,
         };
-        self.tvms.push_reserved(building(tables, state, pool, board));
+        self.tvms
+            .push_reserved(building(tables, state, pool, board));
         TvmId(self.tvms.len() as u32)
     }
 
