@@ -28,7 +28,7 @@ pub fn create_tvm<W: Words>(w: &mut W, g: &mut Ground, h: HartId, root: u64, sta
     match creatable(w, g, root, state) {
         Err(reply) => reply,
         Ok(()) => {
-            let board = board_number(g);
+            let board = board_number(g.pages, g.harts, g.filecount);
             let t = g.tvms.create(page_of(root), page_of(state), board);
             give(w, root, 4, t, Role::Root);
             give(w, state, 1, t, Role::State);
@@ -40,11 +40,11 @@ pub fn create_tvm<W: Words>(w: &mut W, g: &mut Ground, h: HartId, root: u64, sta
     }
 }
 
-// The size of the board, as its record has it.
-fn board_number(g: &Ground) -> u64
-    ensures { result ≡ board_number g.now.pages g.now.harts g.now.filecount }
+// The size of a board, as its record has it.
+fn board_number(pages: u32, harts: u8, files: u8) -> u64
+    ensures { result ≡ board_number pages harts files }
 {
-    u64::from(g.pages) + 65536 * u64::from(g.harts) + 16777216 * u64::from(g.filecount)
+    u64::from(pages) + 65536 * u64::from(harts) + 16777216 * u64::from(files)
 }
 
 // The checks of the call, in the order of its rule.
