@@ -56,7 +56,7 @@ pub stands : Stands small_words small_ground (opening small_script)
 stands = ground_opens small_script small_ground new_ground
 
 no_fence : (place : ℕ) → get_or small_words place 0 ≡ 0
-no_fence place = replicate_zero 534 place
+no_fence place = replicate_zero 582 place
 
 pub ready : IsReady small_words small_ground
 ready = record {

@@ -32,7 +32,7 @@ first_words = host 0 ∷ host 0 ∷ host 0 ∷ host 0 ∷ given 1 Root ∷ given
 past_pages : (place : ℕ) → 9 ≤ place → get_or begun_words place 0 ≡ 0
 past_pages place past = get_or-append_right first_words (replicate (all_words 9 1 - 9) 0) 9 place 0 refl past ∙ replicate_zero (all_words 9 1 - 9) (place - 9)
 
-long : length begun_words ≡ 4638
+long : length begun_words ≡ 4686
 long = refl
 
 roots : (i : ℕ) → i < 4 → get_or begun_words (4 + i) 0 ≡ given 1 Root

@@ -12,7 +12,7 @@ use Rattle.cove_tvm.specs.declared.machines.Tvm.{Tvm}
 -- the words of a board of two harts without a page: hart 0 is inside TVM 1, whose number is 4, and entered with 3; hart 1 is
 -- inside TVM 2
 abbrev pub two_inside : List ℕ
-two_inside = replicate 4 0 ++ 4 ∷ [] ++ replicate 15 0 ++ (2 ^ 32 + 3) ∷ 2 * 2 ^ 32 ∷ 0 ∷ []
+two_inside = replicate 4 0 ++ 4 ∷ [] ++ replicate 63 0 ++ (2 ^ 32 + 3) ∷ 2 * 2 ^ 32 ∷ 0 ∷ []
 
 -- guest page 7 is mapped to page 5 of the TVM's own
 abbrev pub own_five : Mapping

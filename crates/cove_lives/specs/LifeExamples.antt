@@ -7,7 +7,7 @@ use Rattle.cove_base.specs.Stores.{stored}
 use Rattle.cove_base.specs.declared.calls.HostCall.TheVariants.{Convert, Create, GlobalFence, Tables as TablesCall}
 use Rattle.cove_model.specs.Answers.{effect}
 use Rattle.cove_model.specs.States.{State, opening, opening_words}
-use Rattle.cove_model.specs.Tvms.{Tvm as ModelTvm, new_tvm}
+use Rattle.cove_model.specs.Tvms.{Tvm as ModelTvm, created}
 use Rattle.cove_model.specs.WordLaws.{convert_stores, global_fence_stores}
 use Rattle.cove_stage2.specs.declared.tables.Tables.{Tables}
 use Rattle.cove_lives.specs.Examples.{begun}
@@ -70,4 +70,4 @@ abbrev pub supplied_state : State
 supplied_state = effect created_state 0 (TablesCall 1 0 2)
 
 abbrev pub supplied_model : ModelTvm
-supplied_model = record (new_tvm 1) { tables = 0 ∷ 1 ∷ [] }
+supplied_model = record (created 1 0x10009) { tables = 0 ∷ 1 ∷ [] }

@@ -26,7 +26,6 @@ ghost use Rattle.cove_tvm.specs.declared.vcpus.VcpuSlot.{VcpuSlot};
 pub fn worked_beginning()
     ensures begun { (tables : Tables) → tables.root.0 ≡ 4 → tables.pages ≡ 9 → IsNewTvm 9 0x10009 4 8 (begun tables) }
     ensures another_root { (tables : Tables) → tables.root.0 ≡ 5 → IsNewTvm 9 0x10009 4 8 (begun tables) → ⊥ }
-    ensures another_board { (tables : Tables) → IsNewTvm 9 0x20009 4 8 (begun tables) → ⊥ }
     ensures finalized { (tables : Tables) → IsNewTvm 9 0x10009 4 8 (record (begun tables) { life = Runnable }) → ⊥ }
     ensures has_vcpu { (tables : Tables) (slot : VcpuSlot) → IsNewTvm 9 0x10009 4 8 (record (begun tables) { v3 = Some slot }) → ⊥ }
     ensures may_inject { (tables : Tables) → IsNewTvm 9 0x10009 4 8 (record (begun tables) { allowed = 1 }) → ⊥ }

@@ -2,7 +2,7 @@
 //! `*_examples`.
 
 ghost use Rattle.std.specs.Prelude.{◌≡◌, ◌+◌, ◌<◌, ℕ, List, [], ◌∷◌, Some, None, false, true, slice_index, slice_set};
-ghost use Rattle.cove_base.specs.Measurement.{VcpuRecord, extended_at, record_bytes, registers_of};
+ghost use Rattle.cove_base.specs.Measurement.{VcpuRecord, extended_at, record_bytes};
 ghost use Rattle.cove_base.specs.PageWords.{given, released};
 ghost use Rattle.cove_base.specs.Places.{epoch_word, tvm_word};
 ghost use Rattle.cove_base.specs.Tables.{present};
@@ -88,8 +88,6 @@ pub fn worked_keeping()
 pub fn worked_adding()
     ensures adds { (tvm : Tvm) (slot : VcpuSlot) → IsNewCpu 5 slot
         → AddsCpu 1 5 tvm (record tvm { registers = extended_at tvm.registers 0 (record_bytes (VcpuRecord 1)); v1 = Some slot }) }
-    ensures unmeasured { (tvm : Tvm) (slot : VcpuSlot) → tvm.registers ≡ registers_of [] []
-        → AddsCpu 1 5 tvm (record tvm { v1 = Some slot }) → ⊥ }
     ensures other { (tvm : Tvm) (slot : VcpuSlot) → tvm.v1 ≡ None → AddsCpu 1 5 tvm (record tvm { v2 = Some slot }) → ⊥ }
     ensures changed { (tvm : Tvm) (slot : VcpuSlot) → tvm.v2 ≡ None
         → AddsCpu 1 5 tvm (record tvm { v1 = Some slot; v2 = Some slot }) → ⊥ }

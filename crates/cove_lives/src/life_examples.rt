@@ -2,7 +2,7 @@
 //! given pages 0 and 1 for tables. What each call needs is there after those before it.
 
 ghost use Rattle.std.specs.Prelude.{◌≡◌};
-ghost use Rattle.cove_model.specs.Tvms.{new_tvm};
+ghost use Rattle.cove_model.specs.Tvms.{created};
 ghost use Rattle.cove_stage2.specs.declared.tables.Tables.{Tables};
 ghost use Rattle.cove_lives.specs.Examples.{begun};
 ghost use Rattle.cove_tvm.specs.GivenRuns.{MayGive};
@@ -26,10 +26,10 @@ pub fn worked_life()
 pub fn worked_gifts()
     ensures may_create { MayCreate 9 0x4000 0x8000 freed_state }
     ensures free { (tables : Tables) → tables.root.0 ≡ 4 → tables.pages ≡ 9
-        → MayGive created_words (created_ground tables) created_state 0 0 2 (begun tables) (new_tvm 1) }
-    ensures host_page { (tables : Tables) → MayGive created_words (created_ground tables) created_state 0 0x3000 1 (begun tables) (new_tvm 1) → ⊥ }
-    ensures past_the_board { (tables : Tables) → MayGive created_words (created_ground tables) created_state 0 0x9000 1 (begun tables) (new_tvm 1) → ⊥ }
-    ensures to_none { (tables : Tables) → MayGive created_words (created_ground tables) created_state 1 0 2 (begun tables) (new_tvm 1) → ⊥ }
+        → MayGive created_words (created_ground tables) created_state 0 0 2 (begun tables) (created 1 0x10009) }
+    ensures host_page { (tables : Tables) → MayGive created_words (created_ground tables) created_state 0 0x3000 1 (begun tables) (created 1 0x10009) → ⊥ }
+    ensures past_the_board { (tables : Tables) → MayGive created_words (created_ground tables) created_state 0 0x9000 1 (begun tables) (created 1 0x10009) → ⊥ }
+    ensures to_none { (tables : Tables) → MayGive created_words (created_ground tables) created_state 1 0 2 (begun tables) (created 1 0x10009) → ⊥ }
 {}
 
 /// With two tables it may have guest page 9 at a free page, or shared at a page of the host's; without tables it may not.
@@ -38,7 +38,7 @@ pub fn worked_growth()
         → MayGrow supplied_words (supplied_ground tables) supplied_state 0 0x2000 1 0x9000 (supplied_tvm tables) supplied_model }
     ensures shared { (tables : Tables) → tables.root.0 ≡ 4 → tables.pages ≡ 9
         → MayShare supplied_words (supplied_ground tables) supplied_state 0 0x3000 1 0x9000 (supplied_tvm tables) supplied_model }
-    ensures no_tables { (tables : Tables) → MayGrow created_words (created_ground tables) created_state 0 0x2000 1 0x9000 (begun tables) (new_tvm 1) → ⊥ }
+    ensures no_tables { (tables : Tables) → MayGrow created_words (created_ground tables) created_state 0 0x2000 1 0x9000 (begun tables) (created 1 0x10009) → ⊥ }
     ensures host_page { (tables : Tables)
         → MayGrow supplied_words (supplied_ground tables) supplied_state 0 0x3000 1 0x9000 (supplied_tvm tables) supplied_model → ⊥ }
     ensures free_page { (tables : Tables)

@@ -1,4 +1,4 @@
-use cove_evidence::{EvidenceFault, check, make, read};
+use cove_evidence::{EvidenceFault, check, make, make_v1, read};
 use cove_measure::Registers;
 use std::test::Fail;
 
@@ -21,13 +21,27 @@ fn known_nonce() -> [u8; 64] {
     nonce
 }
 
-// Each part stands at its place, and the mac is Python's, under a key of 48 zero bytes.
+// Each part stands at its place in both versions, and the macs are Python's, under a key of 48 zero bytes.
 #[test]
 fn evidence_has_its_parts_in_place(rt: HostRuntime) -> Result<(), Fail> {
-    let quote = make(&known_registers(), &known_nonce(), &[0; 48]);
-    let bytes = quote.as_slice();
+    let (registers, nonce, key) = (known_registers(), known_nonce(), [0; 48]);
+    has_its_parts(
+        &rt,
+        make(&registers, &nonce, &key).as_slice(),
+        b"CoVEevd2",
+        "68efa0cabfe32ebd11b974ee8fd6665bafb20f1f3e7f7bf258e5e5392726f03d8d0f412caaafbdbb0361289f82bd9b7c",
+    )?;
+    has_its_parts(
+        &rt,
+        make_v1(&registers, &nonce, &key).as_slice(),
+        b"CoVEevd1",
+        "882fdf0591447798b70da99d5ecce9fc86a4b1cc7fb63747573e57122df7ece24e64cc0c9d1ff593db9637345f8e6261",
+    )
+}
+
+fn has_its_parts(rt: &HostRuntime, bytes: &[u8], magic: &[u8], text: &str) -> Result<(), Fail> {
     assert_eq!(rt; bytes.len(), 360);
-    assert_eq!(rt; &bytes[..8], b"CoVEevd1".as_slice());
+    assert_eq!(rt; &bytes[..8], magic);
     for (place, byte) in [
         (8, 0x00),
         (56, 0x10),
@@ -39,14 +53,12 @@ fn evidence_has_its_parts_in_place(rt: HostRuntime) -> Result<(), Fail> {
         assert_eq!(rt; bytes[place], byte);
     }
     let mut mac = [0; 48];
-    let text =
-        "882fdf0591447798b70da99d5ecce9fc86a4b1cc7fb63747573e57122df7ece24e64cc0c9d1ff593db9637345f8e6261";
     assert!(rt; hex::decode_to_slice(text, &mut mac).is_ok());
     assert_eq!(rt; &bytes[312..], mac.as_slice());
     Ok(())
 }
 
-// A mac is right under its key alone, and wrong where its first or its last byte differs.
+// A mac is right under its key and for its version alone, and wrong where its first or its last byte differs.
 #[test]
 fn only_the_right_mac_is_right(rt: HostRuntime) -> Result<(), Fail> {
     let quote = make(&known_registers(), &known_nonce(), b"key");
@@ -55,6 +67,9 @@ fn only_the_right_mac_is_right(rt: HostRuntime) -> Result<(), Fail> {
     if let Ok(e) = found {
         assert!(rt; check(&e, b"key"));
         assert!(rt; !check(&e, b"kez"));
+        let mut older = e;
+        older.version = 1;
+        assert!(rt; !check(&older, b"key"));
         for place in [0, 47] {
             let mut wrong = e;
             wrong.mac[place] ^= 1;
@@ -74,8 +89,10 @@ fn faults_come_in_their_order(rt: HostRuntime) -> Result<(), Fail> {
     for (place, byte) in b"CoVEevd1".iter().enumerate() {
         bytes[place] = *byte;
     }
-    assert!(rt; read(&bytes).is_ok());
+    assert!(rt; read(&bytes).is_ok_and(|e| e.version == 1));
     bytes[7] = b'2';
+    assert!(rt; read(&bytes).is_ok_and(|e| e.version == 2));
+    bytes[7] = b'3';
     assert!(rt; matches!(read(&bytes), Err(EvidenceFault::BadMagic)));
     Ok(())
 }

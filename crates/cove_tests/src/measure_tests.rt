@@ -67,6 +67,22 @@ fn a_key_longer_than_a_block_is_hashed(rt: HostRuntime) -> Result<(), Fail> {
     Ok(())
 }
 
+// The board of 64 pages, 2 harts and a file each, and vCPU 1; the values are Python's.
+#[test]
+fn boards_and_vcpus_are_measured(rt: HostRuntime) -> Result<(), Fail> {
+    let mut registers = Registers::new();
+    registers.extend_board(0x0102_0040);
+    let value =
+        "ad0d9441d32c84b67c690841859706c730a62705c15846bf0af26a8b49070b01b525cb97066a3aca8cf6f4411d7e20f4";
+    assert_eq!(rt; registers.get(0), bytes_of_hex(value));
+    registers.extend_vcpu(1);
+    let value =
+        "5939bde611720f0d57234173f4cf907c8a85cc44ee9c783790e3357bbcf1d79c6e646b9e7818a393b74f8ecc2148bf66";
+    assert_eq!(rt; registers.get(0), bytes_of_hex(value));
+    assert_eq!(rt; registers.get(1), [0; 48]);
+    Ok(())
+}
+
 // A page whose word i has eight times the low byte of i, a finish, and a value of a guest's; the values are Python's.
 #[test]
 fn registers_fold_what_extended_them(rt: HostRuntime) -> Result<(), Fail> {

@@ -24,10 +24,10 @@ const PHASES: &[u8] = b"board 16 2 0\n0 gfence\nphase\n1 lfence\nphase\n0 gfence
 
 const PHASES_JOURNAL: &[u8] = b"0 gfence = 0 0x0\n1 lfence = 0 0x0\n0 gfence = 0 0x0\nend 3\n";
 
-const LARGEST: &[u8] = b"board 1024 8 7\nfill 0x3fffff ff\n7 sd 0x3ffff8 1\n7 ld 0x3ffff8\nend\n";
+const LARGEST: &[u8] = b"board 4096 8 7\nfill 0xffffff ff\n7 sd 0xfffff8 1\n7 ld 0xfffff8\nend\n";
 
 const LARGEST_JOURNAL: &[u8] =
-    b"7 sd 0x3ffff8 0x1 walk ok\n7 ld 0x3ffff8 hit 0000000000000001\nend 2\n";
+    b"7 sd 0xfffff8 0x1 walk ok\n7 ld 0xfffff8 hit 0000000000000001\nend 2\n";
 
 fn bytes_of(alloc: Global, items: &[u8]) -> Result<Bytes, NoMemory> {
     let mut bytes = Bytes::new(alloc);

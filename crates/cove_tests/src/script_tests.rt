@@ -12,8 +12,8 @@ static READ: [(&str, &str); 3] = [
         "board 4 2 1\nkey ff\nfill 0x7 abcd\nfill 0x3fff 00\nphase\n1 gfence\nphase\nphase\n0 sd 0x3ff8 0xffffffffffffffff\nturns 1 0 1\nend\n",
     ),
     (
-        "board 1024 8 7\nkey 00\n0 inject 1 2 0xffffffffffffffff\n7 ld 4194296\nend\n",
-        "board 1024 8 7\nkey 00\n0 inject 0x1 0x2 0xffffffffffffffff\n7 ld 0x3ffff8\nend\n",
+        "board 4096 8 7\nkey 00\n0 inject 1 2 0xffffffffffffffff\n7 ld 16777208\nend\n",
+        "board 4096 8 7\nkey 00\n0 inject 0x1 0x2 0xffffffffffffffff\n7 ld 0xfffff8\nend\n",
     ),
 ];
 
