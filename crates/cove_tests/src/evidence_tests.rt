@@ -25,36 +25,33 @@ fn known_nonce() -> [u8; 64] {
 #[test]
 fn evidence_has_its_parts_in_place(rt: HostRuntime) -> Result<(), Fail> {
     let (registers, nonce, key) = (known_registers(), known_nonce(), [0; 48]);
-    has_its_parts(
-        &rt,
-        make(&registers, &nonce, &key).as_slice(),
-        b"CoVEevd2",
-        "68efa0cabfe32ebd11b974ee8fd6665bafb20f1f3e7f7bf258e5e5392726f03d8d0f412caaafbdbb0361289f82bd9b7c",
-    )?;
-    has_its_parts(
-        &rt,
-        make_v1(&registers, &nonce, &key).as_slice(),
-        b"CoVEevd1",
+    let quotes = [
+        make_v1(&registers, &nonce, &key),
+        make(&registers, &nonce, &key),
+    ];
+    let texts = [
         "882fdf0591447798b70da99d5ecce9fc86a4b1cc7fb63747573e57122df7ece24e64cc0c9d1ff593db9637345f8e6261",
-    )
-}
-
-fn has_its_parts(rt: &HostRuntime, bytes: &[u8], magic: &[u8], text: &str) -> Result<(), Fail> {
-    assert_eq!(rt; bytes.len(), 360);
-    assert_eq!(rt; &bytes[..8], magic);
-    for (place, byte) in [
-        (8, 0x00),
-        (56, 0x10),
-        (200, 0x40),
-        (247, 0x4f),
-        (248, 0),
-        (311, 63),
-    ] {
-        assert_eq!(rt; bytes[place], byte);
+        "68efa0cabfe32ebd11b974ee8fd6665bafb20f1f3e7f7bf258e5e5392726f03d8d0f412caaafbdbb0361289f82bd9b7c",
+    ];
+    for i in 0..2 {
+        let bytes = quotes[i].as_slice();
+        assert_eq!(rt; bytes.len(), 360);
+        assert_eq!(rt; &bytes[..7], b"CoVEevd".as_slice());
+        for (place, byte) in [
+            (7, b'1' + i as u8),
+            (8, 0x00),
+            (56, 0x10),
+            (200, 0x40),
+            (247, 0x4f),
+            (248, 0),
+            (311, 63),
+        ] {
+            assert_eq!(rt; bytes[place], byte);
+        }
+        let mut mac = [0; 48];
+        assert!(rt; hex::decode_to_slice(texts[i], &mut mac).is_ok());
+        assert_eq!(rt; &bytes[312..], mac.as_slice());
     }
-    let mut mac = [0; 48];
-    assert!(rt; hex::decode_to_slice(text, &mut mac).is_ok());
-    assert_eq!(rt; &bytes[312..], mac.as_slice());
     Ok(())
 }
 
