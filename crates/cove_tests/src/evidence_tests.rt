@@ -21,37 +21,39 @@ fn known_nonce() -> [u8; 64] {
     nonce
 }
 
+// Whether evidence begins with a version's magic, and has the known registers and the known nonce at their places.
+fn has_its_parts(bytes: &[u8], magic: &[u8]) -> bool {
+    let parts = [
+        (8, 0x00),
+        (56, 0x10),
+        (200, 0x40),
+        (247, 0x4f),
+        (248, 0),
+        (311, 63),
+    ];
+    bytes.len() == 360
+        && bytes.starts_with(magic)
+        && parts
+            .iter()
+            .all(|(place, byte)| bytes.get(*place) == Some(byte))
+}
+
 // Each part stands at its place in both versions, and the macs are Python's, under a key of 48 zero bytes.
 #[test]
 fn evidence_has_its_parts_in_place(rt: HostRuntime) -> Result<(), Fail> {
-    let (registers, nonce, key) = (known_registers(), known_nonce(), [0; 48]);
-    let quotes = [
-        make_v1(&registers, &nonce, &key),
-        make(&registers, &nonce, &key),
-    ];
-    let texts = [
-        "882fdf0591447798b70da99d5ecce9fc86a4b1cc7fb63747573e57122df7ece24e64cc0c9d1ff593db9637345f8e6261",
-        "68efa0cabfe32ebd11b974ee8fd6665bafb20f1f3e7f7bf258e5e5392726f03d8d0f412caaafbdbb0361289f82bd9b7c",
-    ];
-    for i in 0..2 {
-        let bytes = quotes[i].as_slice();
-        assert_eq!(rt; bytes.len(), 360);
-        assert_eq!(rt; &bytes[..7], b"CoVEevd".as_slice());
-        for (place, byte) in [
-            (7, b'1' + i as u8),
-            (8, 0x00),
-            (56, 0x10),
-            (200, 0x40),
-            (247, 0x4f),
-            (248, 0),
-            (311, 63),
-        ] {
-            assert_eq!(rt; bytes[place], byte);
-        }
-        let mut mac = [0; 48];
-        assert!(rt; hex::decode_to_slice(texts[i], &mut mac).is_ok());
-        assert_eq!(rt; &bytes[312..], mac.as_slice());
-    }
+    let newer = make(&known_registers(), &known_nonce(), &[0; 48]);
+    let older = make_v1(&known_registers(), &known_nonce(), &[0; 48]);
+    assert!(rt; has_its_parts(newer.as_slice(), b"CoVEevd2"));
+    assert!(rt; has_its_parts(older.as_slice(), b"CoVEevd1"));
+    let mut mac = [0; 48];
+    let text =
+        "68efa0cabfe32ebd11b974ee8fd6665bafb20f1f3e7f7bf258e5e5392726f03d8d0f412caaafbdbb0361289f82bd9b7c";
+    assert!(rt; hex::decode_to_slice(text, &mut mac).is_ok());
+    assert!(rt; newer.as_slice().ends_with(&mac));
+    let text =
+        "882fdf0591447798b70da99d5ecce9fc86a4b1cc7fb63747573e57122df7ece24e64cc0c9d1ff593db9637345f8e6261";
+    assert!(rt; hex::decode_to_slice(text, &mut mac).is_ok());
+    assert!(rt; older.as_slice().ends_with(&mac));
     Ok(())
 }
 
