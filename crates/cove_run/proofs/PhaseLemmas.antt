@@ -1,5 +1,5 @@
 -- Which phase comes first.
-use Rattle.std.proofs.Common.{◌≡◌, ℕ, ◌+◌, ◌<◌, List, length, get_or, Option, Some, None, IfSome, slice_get, refl, sym, subst, arith, below_more}
+use Rattle.std.proofs.Common.{◌≡◌, ℕ, ◌+◌, ◌<◌, List, length, get_or, false, Option, Some, None, IfSome, slice_get, refl, sym, subst, arith, below_more}
 use Rattle.std.specs.Option.{option_map}
 use Rattle.std.proofs.lemmas.Option.{IfSome_then, slice_get_read}
 use Rattle.cove_model.specs.Machine.{next_line, ScriptValue, ScriptLine}
@@ -21,6 +21,14 @@ pub idle_after_none : (script : ScriptValue) (seats : List SeatValue) → AreAft
 idle_after_none script seats after k below =
     IfSome_then (slice_get seats k) {P = λ seat. ComesFirst None (next_phase script seat)} {Q = IsIdle script} (after k below)
     (λ seat. none_is_first (next_line script seat.held.hart seat.held.ended))
+
+-- one more hart with room
+pub room_more : (seats : List SeatValue) (i : ℕ) (seat : SeatValue) → i < length seats → seat ≡ get_or seats i seat → seat.full ≡ false
+    → ((k : ℕ) → k < i → IfSome (slice_get seats k) (λ s. s.full ≡ false))
+    → (k : ℕ) → k < i + 1 → IfSome (slice_get seats k) (λ s. s.full ≡ false)
+room_more seats i seat within at room before =
+    below_more (λ k. IfSome (slice_get seats k) (λ s. s.full ≡ false)) i before
+    (subst (λ o. IfSome o (λ s. s.full ≡ false)) (sym (slice_get_read seats (length seats) i seat refl within at)) room)
 
 -- one more hart
 pub after_more : (script : ScriptValue) (seats : List SeatValue) (i : ℕ) (seat : SeatValue) (least own left : Option ℕ) → i < length seats → seat ≡ get_or seats i seat → own ≡ next_phase script seat → ComesFirst left least → ComesFirst left own

@@ -1,5 +1,5 @@
 -- What harts on threads come to.
-use Rattle.std.specs.Prelude.{◌≡◌, ℕ, ◌<◌, ◌≤◌, List, length, Option, None, Some, IfSome, slice_get}
+use Rattle.std.specs.Prelude.{◌≡◌, ℕ, ◌<◌, ◌≤◌, false, List, length, Option, None, Some, IfSome, slice_get}
 use Rattle.std.specs.Option.{option_map}
 use Rattle.cove_base.specs.HartLines.{next_line}
 use Rattle.cove_base.specs.Scripts.{ScriptValue}
@@ -27,6 +27,10 @@ ComesFirst (Some first) (Some other) = first ≤ other
 abbrev pub AreAfter : ScriptValue → (phase : Option ℕ) → List SeatValue → Type 0
 AreAfter script phase seats =
     (k : ℕ) → k < length seats → IfSome (slice_get seats k) (λ seat. ComesFirst phase (next_phase script seat))
+
+-- no hart met a full history at its last event
+abbrev pub HaveRoom : List SeatValue → Type 0
+HaveRoom seats = (k : ℕ) → k < length seats → IfSome (slice_get seats k) (λ seat. seat.full ≡ false)
 
 -- a hart came to a full history, with a line left
 pub record HasFull (seats : List SeatValue) : Type 0 where

@@ -3,7 +3,7 @@
 ghost use Rattle.std.specs.Prelude.{◌≡◌, ◌<◌, IsTrue, IsFalse, None};
 ghost use Rattle.cove_monitor.specs.Closing.{AreSeats, IsNumber};
 ghost use Rattle.cove_monitor.specs.Seats.{IsHartOf};
-ghost use Rattle.cove_run.specs.Working.{AreAfter, AreIdle, ComesFirst, HasFull};
+ghost use Rattle.cove_run.specs.Working.{AreAfter, AreIdle, ComesFirst, HasFull, HaveRoom};
 
 use crate::gates::{Gate, Place};
 use cove_base::{Script, Steps};
@@ -44,7 +44,8 @@ pub(crate) fn work_through<B: Room + Send + Sync, R: Threads + Wait + Sync, G: G
 
 // Whether a hart came to a full history.
 fn is_any_full(harts: &[Hart]) -> bool
-    ensures { IsTrue result → HasFull harts.now }
+    ensures full { IsTrue result → HasFull harts.now }
+    ensures room { IsFalse result → HaveRoom harts.now }
 {
     for hart in harts {
         if hart.is_full() {
@@ -79,7 +80,7 @@ fn earlier(a: Option<u32>, b: Option<u32>) -> Option<u32>
     }
 }
 
-// Works on one phase, each hart on a thread of its own.
+// Works on one phase, each hart on a thread of its own, while none met a full history.
 fn work_on_phase<B: Room + Send + Sync, R: Threads + Wait + Sync, G: Gate + Sync>(
     rt: &R,
     monitor: &Monitor<B>,
@@ -90,6 +91,7 @@ fn work_on_phase<B: Room + Send + Sync, R: Threads + Wait + Sync, G: Gate + Sync
 )
     requires script { monitor.now ≡ script.now }
     requires harts { AreSeats B.table script.now harts.old }
+    requires room { HaveRoom harts.old }
     ensures { AreSeats B.table script.now harts.new }
 {
     let threads = usize::from(script.harts);
