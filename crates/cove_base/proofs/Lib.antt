@@ -5,6 +5,7 @@ pub mod HostWalkLemmas
 pub mod JoinedWords
 pub mod LineLinkLemmas
 pub mod ScriptLimits
+pub mod SlotStores
 pub mod StoreLemmas
 pub mod TableLemmas
 pub mod TreeLemmas

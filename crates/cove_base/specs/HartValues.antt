@@ -3,6 +3,7 @@ use Rattle.std.specs.Prelude.{ℕ, ◌/◌, ◌==◌, Bool, false, List, [], Opt
 use Rattle.std.specs.Option.{option_map}
 use Rattle.cove_base.specs.declared.events.Walked.{Walked}
 use Rattle.cove_base.specs.declared.events.Walked.TheVariants.{Found, Missing}
+use Rattle.cove_base.specs.declared.modes.Mode.{Mode}
 use Rattle.cove_base.specs.declared.numbers.Page.{Page}
 use Rattle.cove_base.specs.declared.scripts.Line.{Line}
 use Rattle.cove_base.specs.declared.scripts.Line.TheVariants.{Call, Load, Store}
@@ -17,11 +18,13 @@ pub record HartRings : Type 0 where
   pub fetches : List (ℕ × Page)
   pub accesses : List (ℕ × Page)
 
--- the vCPU that a hart runs, the root of its TVM's tables, and what the hart keeps of the vCPU between two of its entries
+-- the vCPU that a hart runs, the root and the mode of its TVM's tables, and what the hart keeps of the vCPU between two of
+-- its entries
 pub record Inside : Type 0 where
   pub tvm : ℕ
   pub cpu : ℕ
   pub root : ℕ
+  pub mode : Mode
   pub x : List ℕ
   pub pc : ℕ
   pub latched : Option ℕ
@@ -37,9 +40,11 @@ pub record HartValue : Type 0 where
   pub walked : Option Noted
   pub inside : Option Inside
 
--- where the guest walks of a hart that is inside begin, and what they came by: the root of its TVM's tables, and table pages
+-- where the guest walks of a hart that is inside begin, and what they came by: the root and the mode of its TVM's tables,
+-- and table pages
 pub record Way : Type 0 where
   pub root : ℕ
+  pub mode : Mode
   pub tables : List ℕ
 
 -- what the board's rule speaks of: the hart's number, its rings, the walk that it has not used yet, and the way of its guest
@@ -52,7 +57,7 @@ pub record Holding : Type 0 where
 
 -- the way of a hart that makes no walk
 abbrev pub way_of : Inside → Way
-way_of here = record { root = here.root; tables = [] }
+way_of here = record { root = here.root; mode = here.mode; tables = [] }
 
 abbrev pub holding : HartValue → Holding
 holding held = record { hart = held.hart; rings = held.rings; walked = held.walked; way = option_map way_of held.inside }

@@ -15,6 +15,7 @@ pub mod Instructions
 pub mod InterruptFiles
 pub mod LineLinks
 pub mod Measurement
+pub mod Modes
 pub mod Numbers
 pub mod PageWords
 pub mod Places

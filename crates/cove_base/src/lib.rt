@@ -10,6 +10,7 @@ mod histories;
 mod instructions;
 mod limits;
 mod lists;
+mod modes;
 mod numbers;
 mod places;
 mod plans;
@@ -37,6 +38,7 @@ pub use limits::{
     limits_law,
 };
 pub use lists::{Bytes, Fills, Items, Turns};
+pub use modes::{Mode, mode_of};
 pub use numbers::{Gpn, HartId, NoMemory, Page, Role, TvmId};
 pub use places::{
     all_words, answered_word, count_word, epoch_word, hart_word, page_word, places_law, table_word,

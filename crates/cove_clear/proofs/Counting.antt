@@ -1,17 +1,19 @@
 -- What is left of a TVM's tables after the count of a page of the host's changed, while it is destroyed; and how many pages are gathered.
-use Rattle.std.proofs.Common.{◌≡◌, ◌≢◌, ℕ, zero, suc, ◌+◌, ◌*◌, ◌/◌, ◌%◌, ◌^◌, ◌<◌, ◌≤◌, ◌⊎◌, ◌∙◌, ◌||◌, not, Bool, true, false, true≢false, cond, eqb, eqb-true, eq-eqb, List, [], ◌∷◌, drop, get_or, length, length-set, set, take, refl, sym, ap, subst, inl, inr, arith, get_or-set_other, get_or-set_same}
+use Rattle.std.proofs.Common.{◌≡◌, ◌≢◌, ℕ, zero, suc, ◌+◌, ◌*◌, ◌/◌, ◌%◌, ◌^◌, ◌<◌, ◌≤◌, ◌∙◌, ◌||◌, not, Bool, true, false, true≢false, cond, eqb, eqb-true, eq-eqb, List, [], ◌∷◌, drop, get_or, length, length-set, set, take, refl, sym, ap, subst, inl, inr, arith, get_or-set_other, get_or-set_same}
 use Rattle.std.proofs.lemmas.Bool.{cases_eq, or_left}
 use Rattle.std.proofs.lemmas.List.{get_or-drop, get_or-take, length-drop, length-take}
 use Rattle.std.proofs.lemmas.List.Sums.{get_or-le-sum_by}
-use Rattle.cove_model.specs.Machine.{given, host, hart_word, table_word, Role, Root, Table, Data, AreOwned, Counts, IsBehindLeaf, IsLawful, IsRoot, LeafNames, AreDistinct, has, without}
-use Rattle.cove_base.specs.Tables.{Slot, InRoot, InMiddle, InLast, IsLeaf, IsLink, IsLinkSlot, IsSlot, IsTree, Names, ByBlocked, ByPresent, below, entry_at, leaf_at, next_table}
+use Rattle.cove_base.proofs.SlotStores.{entries-stay}
+use Rattle.cove_base.proofs.TableLemmas.{below-named, next-cases}
+use Rattle.cove_base.proofs.TreeLemmas.{link-slot}
+use Rattle.cove_model.specs.Machine.{given, host, hart_word, table_word, Role, Root, Table, Data, AreOwned, ChangesPage, Counts, IsBehindLeaf, IsLawful, IsRoot, LeafNames, AreDistinct, has, without}
+use Rattle.cove_base.specs.Tables.{Slot, At, IsLeaf, IsLink, IsSlot, IsTree, Names, ByBlocked, ByPresent, entry_at, entry_in, next_table}
 use Rattle.cove_clear.specs.Clearing.{AreCounted, AreGathered, Clears, IsClearable}
 use Rattle.cove_model.proofs.Distinct.{distinct_filter}
 use Rattle.cove_model.proofs.LeafWords.{given_host, none_named}
 use Rattle.cove_model.proofs.Members.{false-true, has_not, has_with}
 use Rattle.cove_model.proofs.OwnedStores.{page_stored, stands_in}
 use Rattle.cove_model.proofs.SharedLeaves.{stores_count_shared}
-use Rattle.cove_model.proofs.SlotStores.{below_named, entries_stay, next_cases}
 use Rattle.cove_model.specs.TableLaw.{is_shared_leaf, shared_leaves}
 use Rattle.cove_stage2.proofs.SharedWords.{is_shared}
 
@@ -41,18 +43,20 @@ word_counts pages words q p i size on low is =
     let most = get_or-le-sum_by (λ w. flag (is_shared_leaf q w)) (take (512 * pages) (drop pages words)) (512 * p + i) 0 within in
     omega arith
 
-pub leaf_counts : (pages : ℕ) (words : List ℕ) (r g q : ℕ) → 513 * pages ≤ length words
-    → ((page : ℕ) → entry_at pages r words (InMiddle (g / 512)) ≡ next_table page → page < pages) → g < 2 ^ 29 → q < 2 ^ 16
-    → Names q true (leaf_at pages r words g) → 0 < shared_leaves pages words q
-leaf_counts pages words r g q size board low small named = go (next_cases pages (entry_at pages r words (InMiddle (g / 512))))
-  where
-    go : ((page : ℕ) × (entry_at pages r words (InMiddle (g / 512)) ≡ next_table page)) ⊎ ((ws : List ℕ) (i : ℕ) → below pages ws (entry_at pages r words (InMiddle (g / 512))) i ≡ 0)
-        → 0 < shared_leaves pages words q
-    go (inl table) =
-        let on = board table.0 table.1 in
-        let leaf = below_named pages (entry_at pages r words (InMiddle (g / 512))) table.0 (g % 512) words table.1 in
-        word_counts pages words q table.0 (g % 512) size on (omega arith) (ap (is_shared_leaf q) (sym leaf) ∙ shares_page q (leaf_at pages r words g) small named)
-    go (inr none) = absurd (none_named q true (leaf_at pages r words g) (none words (g % 512)) named)
+pub leaf_counts : (pages : ℕ) (words : List ℕ) (r : ℕ) → 513 * pages ≤ length words → r + 4 ≤ pages
+    → ((b : Slot) (page : ℕ) → IsSlot b → entry_at pages r words b ≡ next_table page → page < pages)
+    → (a : Slot) (q : ℕ) → IsSlot a → q < 2 ^ 16 → Names q true (entry_at pages r words a) → 0 < shared_leaves pages words q
+leaf_counts pages words r size fits board (At zero n) q slot small named =
+    let at : table_word pages r n ≡ table_word pages (r + n / 512) (n % 512) = omega arith in
+    word_counts pages words q (r + n / 512) (n % 512) size (omega arith) (omega arith)
+    (ap (λ k. is_shared_leaf q (get_or words k 0)) (sym at) ∙ shares_page q (get_or words (table_word pages r n) 0) small named)
+leaf_counts pages words r size fits board (At (suc d) n) q slot small named = elim (next-cases pages (entry_in pages r words d (n / 512))) [
+  | inl (table, link) ↦
+      let leaf = below-named pages words (entry_in pages r words d (n / 512)) table (n % 512) link in
+      word_counts pages words q table (n % 512) size (board (At d (n / 512)) table (omega arith) link) (omega arith)
+      (ap (is_shared_leaf q) (sym leaf) ∙ shares_page q (entry_in pages r words (suc d) n) small named)
+  | inr none ↦ absurd (none_named q true (entry_in pages r words (suc d) n) (none words (n % 512)) named)
+]
 
 -- ---- a list of different pages of the board is no longer than the board
 
@@ -90,7 +94,7 @@ few_pages (suc n) ps apart low =
 
 -- ---- the count of a page of the host's
 
-module _ (pages harts : ℕ) (words : List ℕ) (t root : ℕ) (clearable : IsClearable pages harts words t root) (q before after : ℕ) (on : q < pages)
+module _ (pages harts : ℕ) (words : List ℕ) (t root leaves : ℕ) (clearable : IsClearable pages harts words t root leaves) (q before after : ℕ) (on : q < pages)
     (was : get_or words q 0 ≡ host before) (counts : after ≡ shared_leaves pages words q) where
   abbrev now : List ℕ
   now = set words q (host after)
@@ -108,13 +112,15 @@ module _ (pages harts : ℕ) (words : List ℕ) (t root : ℕ) (clearable : IsCl
   other_page p off = get_or-set_other words q p (host after) 0 off
 
   -- a leaf of a TVM that names the page shares it
-  leaf_shares : (u r g : ℕ) (shared : Bool) → AreOwned pages words u r → g < 2 ^ 29 → Names q shared (leaf_at pages r words g) → (shared ≡ true) × (0 < after)
-  leaf_shares u r g false owned low named = absurd (given_host u before Data (sym (owned.backed g q false low small named).1 ∙ was))
-  leaf_shares u r g true owned low named = let some = leaf_counts pages words r g q size (λ page link. (owned.linked (InMiddle (g / 512)) page (omega arith) link).0) low small named in (refl, omega arith)
+  leaf_shares : (u r : ℕ) (a : Slot) (shared : Bool) → AreOwned pages words u r → IsSlot a → Names q shared (entry_at pages r words a) → (shared ≡ true) × (0 < after)
+  leaf_shares u r a false owned slot named = absurd (given_host u before Data (sym (owned.backed a q false slot small named).1 ∙ was))
+  leaf_shares u r a true owned slot named =
+      let some = leaf_counts pages words r size owned.root_is.fits (λ b page h link. (owned.linked b page h link).0) a q slot small named in
+      (refl, omega arith)
 
   -- the store is lawful
   pub count_lawful : (hart : ℕ) (old : List ℕ) → IsLawful pages harts hart old words q (host after)
-  count_lawful hart old = Counts q before after on refl was refl (λ none u names. unnamed none u names)
+  count_lawful hart old = ChangesPage q on refl (Counts before after was refl (λ none u names. unnamed none u names))
     where
       unnamed : after ≡ 0 → (u : ℕ) → LeafNames pages words u q → ⊥
       unnamed none u names =
@@ -131,9 +137,9 @@ module _ (pages harts : ℕ) (words : List ℕ) (t root : ℕ) (clearable : IsCl
     | inr off ↦ sym (other_page p off) ∙ is
   ]
 
-  entries : (b : Slot) → IsSlot b → entry_at pages root now b ≡ entry_at pages root words b
+  pub entries : (b : Slot) → IsSlot b → entry_at pages root now b ≡ entry_at pages root words b
   entries =
-      entries_stay pages root words q (host after)
+      entries-stay pages root words q (host after)
       (λ b slot at.
       let own = stands_in pages words t root mine b q slot at in
       let is : q ≡ table_word pages own.page own.i = own.at in
@@ -146,11 +152,11 @@ module _ (pages harts : ℕ) (words : List ℕ) (t root : ℕ) (clearable : IsCl
     least = λ p low e. is.least p low (given_stays p u Root e);
   }
 
-  behind_again : (u r : ℕ) → AreOwned pages words u r → (g : ℕ) (shared : Bool) → g < 2 ^ 29 → Names q shared (leaf_at pages r words g)
+  behind_again : (u r : ℕ) → AreOwned pages words u r → (a : Slot) (shared : Bool) → IsSlot a → Names q shared (entry_at pages r words a)
       → IsBehindLeaf words u q shared → IsBehindLeaf now u q shared
-  behind_again u r owned g false low named behind = absurd (given_host u before Data (sym behind ∙ was))
-  behind_again u r owned g true low named behind =
-      (after, (leaf_shares u r g true owned low named).1, get_or-set_same words q (host after) 0 (let long = size in omega arith))
+  behind_again u r owned a false slot named behind = absurd (given_host u before Data (sym behind ∙ was))
+  behind_again u r owned a true slot named behind =
+      (after, (leaf_shares u r a true owned slot named).1, get_or-set_same words q (host after) 0 (let long = size in omega arith))
 
   owned_now : (u r : ℕ) → IsRoot pages now u r → AreOwned pages now u r
   owned_now u r is =
@@ -159,28 +165,19 @@ module _ (pages harts : ℕ) (words : List ℕ) (t root : ℕ) (clearable : IsCl
       (λ e. given_host u before Root (sym e ∙ was)) (λ e. given_host u after Root (sym e)) (λ e. given_host u before Table (sym e ∙ was))
       (behind_again u r owned) (let long = size in omega arith)
 
-  tree_now : IsTree pages root now
+  tree_now : IsTree pages root leaves now
   tree_now = record {
     fits = clearable.tree.fits;
     size = subst (λ n. 513 * pages ≤ n) (sym (length-set words q (host after))) clearable.tree.size;
-    links = λ b h. subst (IsLink pages root) (sym (same b h)) (clearable.tree.links b h);
-    leaves = λ g h. subst IsLeaf (sym (entries (InLast g) h)) (clearable.tree.leaves g h);
-    apart = λ b c p hb hc nb nc. clearable.tree.apart b c p hb hc (sym (same b hb) ∙ nb) (sym (same c hc) ∙ nc);
-  } where
-    same : (b : Slot) → IsLinkSlot b → entry_at pages root now b ≡ entry_at pages root words b
-    same (InRoot n) h = entries (InRoot n) h
-    same (InMiddle n) h = entries (InMiddle n) h
-    same (InLast g) h = absurd h
-
-  pub link_same : (b : Slot) → IsLinkSlot b → entry_at pages root now b ≡ entry_at pages root words b
-  link_same (InRoot n) h = entries (InRoot n) h
-  link_same (InMiddle n) h = entries (InMiddle n) h
-  link_same (InLast g) h = absurd h
+    links = λ b h. subst (IsLink pages root) (sym (entries b (link-slot leaves b h))) (clearable.tree.links b h);
+    leaf = λ g h. subst IsLeaf (sym (entries (At leaves g) h)) (clearable.tree.leaf g h);
+    apart = λ b c p hb hc nb nc. clearable.tree.apart b c p hb hc (sym (entries b hb) ∙ nb) (sym (entries c hc) ∙ nc);
+  }
 
   past : (k : ℕ) → pages ≤ k → get_or now k 0 ≡ get_or words k 0
   past k high = get_or-set_other words q k (host after) 0 (omega arith)
 
-  pub now_open : IsClearable pages harts now t root
+  pub now_open : IsClearable pages harts now t root leaves
   now_open = record {
     few = clearable.few;
     size = length-set words q (host after) ∙ clearable.size;
@@ -192,7 +189,7 @@ module _ (pages harts : ℕ) (words : List ℕ) (t root : ℕ) (clearable : IsCl
     };
     tree = tree_now;
     owned = owned_now;
-    once = λ g h p low high p-on first second. clearable.once g h p low high p-on (subst (Names p false) (entries (InLast g) low) first) (subst (Names p false) (entries (InLast h) high) second);
+    once = λ b c p hb hc p-on first second. clearable.once b c p hb hc p-on (subst (Names p false) (entries b hb) first) (subst (Names p false) (entries c hc) second);
   }
 
   pub now_gathered : (pool : List ℕ) → AreGathered pages words t root pool → AreGathered pages now t root pool
@@ -201,15 +198,15 @@ module _ (pages harts : ℕ) (words : List ℕ) (t root : ℕ) (clearable : IsCl
     on_board = gathered.on_board;
     own = λ p there. elim (gathered.own p there) [ inl is ↦ inl (given_stays p t Table is) | inr is ↦ inr (given_stays p t Data is) ];
     empty = λ p i there is low. past (table_word pages p i) (omega arith) ∙ gathered.empty p i there (given_was p t Table is) low;
-    unlinked = λ b p link named. gathered.unlinked b p link (sym (link_same b link) ∙ named);
-    unmapped = λ g p low p-on named. gathered.unmapped g p low p-on (subst (Names p false) (entries (InLast g) low) named);
+    unlinked = λ b p h named. gathered.unlinked b p h (sym (entries b h) ∙ named);
+    unmapped = λ b p h p-on named. gathered.unmapped b p h p-on (subst (Names p false) (entries b h) named);
     tables = λ p p-on is. elim (gathered.tables p p-on (given_was p t Table is)) [
       | inl there ↦ inl there
-      | inr linked ↦ inr (linked.0, linked.1, link_same linked.0 linked.1 ∙ linked.2)
+      | inr linked ↦ inr (linked.0, linked.1, entries linked.0 linked.1 ∙ linked.2)
     ];
     memory = λ p p-on is. elim (gathered.memory p p-on (given_was p t Data is)) [
       | inl there ↦ inl there
-      | inr mapped ↦ inr (mapped.0, mapped.1, subst (Names p false) (sym (entries (InLast mapped.0) mapped.1)) mapped.2)
+      | inr mapped ↦ inr (mapped.0, mapped.1, subst (Names p false) (sym (entries mapped.0 mapped.1)) mapped.2)
     ];
   }
 

@@ -2,9 +2,8 @@
 use Rattle.std.proofs.Common.{◌≡◌, ◌≢◌, ℕ, zero, suc, ◌+◌, ◌-◌, ◌*◌, ◌^◌, ◌<◌, ◌≤◌, ◌∙◌, false, true≢false, List, [], ◌∷◌, get_or, length, length-set, replicate, set, refl, sym, ap, inl, inr, arith, get_or-set_other, get_or-set_same}
 use Rattle.std.proofs.lemmas.Bool.{cases_eq}
 use Rattle.std.proofs.lemmas.List.{get_or-append_right}
-use Rattle.cove_base.proofs.TreeLemmas.{link-slot}
 use Rattle.cove_model.specs.Machine.{given, host, released, all_words, epoch_word, hart_word, table_word, Root, Table, Data, AreOwned, ChangesTable, IsLeft, IsRoot, Rewrites, has}
-use Rattle.cove_base.specs.Tables.{Slot, InLast, IsLinkSlot, IsSlot, entry_at, leaf_at, next_table}
+use Rattle.cove_base.specs.Tables.{Slot, Names, IsSlot, entry_at, next_table}
 use Rattle.cove_clear.proofs.Zeroing.{one_has}
 use Rattle.cove_clear.specs.Clearing.{AreCounted, AreGathered, Clears, IsBeingCleared, IsClearable, MayBeCleared, Proceeds}
 use Rattle.cove_model.proofs.LeafWords.{none_named}
@@ -28,8 +27,11 @@ size = refl
 no_entry : (r : ℕ) (a : Slot) → IsSlot a → entry_at 8 r rooted a ≡ 0
 no_entry r = empty-entries 8 r rooted (λ n low. rooted_zero (table_word 8 r n) (omega arith))
 
-no_link : (r : ℕ) (a : Slot) (page : ℕ) → IsLinkSlot a → entry_at 8 r rooted a ≡ next_table page → ⊥
-no_link r a page link named = let none = sym (no_entry r a (link-slot a link)) ∙ named in absurd (omega arith)
+no_link : (r : ℕ) (a : Slot) (page : ℕ) → IsSlot a → entry_at 8 r rooted a ≡ next_table page → ⊥
+no_link r a page slot named = let none = sym (no_entry r a slot) ∙ named in absurd (omega arith)
+
+no_name : (a : Slot) (page : ℕ) → IsSlot a → Names page false (entry_at 8 4 rooted a) → ⊥
+no_name a page slot named = none_named page false (entry_at 8 4 rooted a) (no_entry 4 a slot) named
 
 -- ---- a TVM that is being destroyed
 
@@ -61,18 +63,18 @@ owned u r is = record {
   root_is = is;
   linked = λ a page link named. absurd (no_link r a page link named);
   apart = λ a b page link other named also. absurd (no_link r a page link named);
-  backed = λ g page shared low small named. absurd (none_named page shared (leaf_at 8 r rooted g) (no_entry r (InLast g) low) named);
+  backed = λ a page shared slot small named. absurd (none_named page shared (entry_at 8 r rooted a) (no_entry r a slot) named);
 }
 
-clearable : IsClearable 8 1 rooted 1 4
-clearable = record {
+clearable : (leaves : ℕ) → IsClearable 8 1 rooted 1 4 leaves
+clearable leaves = record {
   few = omega arith;
   size = size;
   left = nobody;
   root_is = record { fits = omega arith; roots = root_page; least = no_root_before };
-  tree = empty-tree 8 4 rooted (omega arith) (omega (arith, size)) (λ n low. rooted_zero (table_word 8 4 n) (omega arith));
+  tree = empty-tree 8 4 leaves rooted (omega arith) (omega (arith, size)) (λ n low. rooted_zero (table_word 8 4 n) (omega arith));
   owned = owned;
-  once = λ g h p low high on first second. absurd (none_named p false (leaf_at 8 4 rooted g) (no_entry 4 (InLast g) low) first);
+  once = λ a b p slot other on first second. absurd (no_name a p slot first);
 }
 
 no_table : (p : ℕ) → p < 8 → get_or rooted p 0 ≢ given 1 Table
@@ -96,7 +98,7 @@ gathered = record {
   own = λ p there. inr (ap (λ k. get_or rooted k 0) (sym (one_has 2 p there)));
   empty = λ p i there table low. rooted_zero (table_word 8 p i) (omega arith);
   unlinked = λ a p link named. absurd (no_link 4 a p link named);
-  unmapped = λ g p low on named. absurd (none_named p false (leaf_at 8 4 rooted g) (no_entry 4 (InLast g) low) named);
+  unmapped = λ a p slot on named. absurd (no_name a p slot named);
   tables = λ p on table. absurd (no_table p on table);
   memory = λ p on data_page. inl (ap (λ k. has k (2 ∷ [])) (one_data p on data_page));
 }
@@ -108,14 +110,14 @@ counted (suc (suc zero)) maps on is = absurd (omega arith)
 counted (suc (suc (suc zero))) maps on is = absurd (omega arith)
 counted (suc (suc (suc (suc p)))) maps on is = let root = root_word p (omega arith) in absurd (omega arith)
 
-pub leaving : IsBeingCleared 8 1 rooted 1 4 (2 ∷ [])
-leaving = record { clearable = clearable; gathered = gathered; counted = counted }
+pub leaving : (leaves : ℕ) → IsBeingCleared 8 1 rooted 1 4 leaves (2 ∷ [])
+leaving leaves = record { clearable = clearable leaves; gathered = gathered; counted = counted }
 
-pub not_inside : IsBeingCleared 8 1 entered_words 1 4 (2 ∷ []) → ⊥
-not_inside going = going.clearable.left 0 (omega arith) (0, (omega arith, get_or-set_same rooted 4171 (2 ^ 32) 0 (omega (arith, size))))
+pub not_inside : (leaves : ℕ) → IsBeingCleared 8 1 entered_words 1 4 leaves (2 ∷ []) → ⊥
+not_inside leaves going = going.clearable.left 0 (omega arith) (0, (omega arith, get_or-set_same rooted 4171 (2 ^ 32) 0 (omega (arith, size))))
 
-pub not_miscounted : IsBeingCleared 8 1 (set rooted 0 (host 1)) 1 4 (2 ∷ []) → ⊥
-not_miscounted going =
+pub not_miscounted : (leaves : ℕ) → IsBeingCleared 8 1 (set rooted 0 (host 1)) 1 4 leaves (2 ∷ []) → ⊥
+not_miscounted leaves going =
     let none : shared_leaves 8 (set rooted 0 (host 1)) 0 ≡ 0 = refl in
     let count : 1 ≡ shared_leaves 8 (set rooted 0 (host 1)) 0 = going.counted 0 1 (omega arith) refl in
     absurd (omega arith)
@@ -125,7 +127,7 @@ not_miscounted going =
 pub not_lost : AreGathered 8 rooted 1 4 [] → ⊥
 not_lost all = elim (all.memory 2 (omega arith) refl) [
   | inl there ↦ absurd (true≢false (sym there))
-  | inr mapped ↦ none_named 2 false (leaf_at 8 4 rooted mapped.0) (no_entry 4 (InLast mapped.0) mapped.1) mapped.2
+  | inr (a, slot, named) ↦ no_name a 2 slot named
 ]
 
 pub not_of_the_host : AreGathered 8 rooted 1 4 (2 ∷ 0 ∷ []) → ⊥
@@ -197,13 +199,13 @@ not_the_epoch clears =
 
 -- ---- what a TVM goes on to
 
-pub allows_nothing : (words pool : List ℕ) → MayBeCleared (λ old place word. ⊥) 8 4 words pool → ⊥
-allows_nothing words pool may =
+pub allows_nothing : (leaves : ℕ) (words pool : List ℕ) → MayBeCleared (λ old place word. ⊥) 8 4 leaves words pool → ⊥
+allows_nothing leaves words pool may =
     let root = may.4.clearable.root_is.roots 0 (omega arith) in
     may.5 words (table_word 8 4 0) 0 (ChangesTable may.1 4 0 (omega arith) (omega arith) refl (inl root) (Rewrites may.4.clearable.left))
 
-pub not_lost_on_the_way : Proceeds 8 4 rooted (2 ∷ []) rooted [] → ⊥
-not_lost_on_the_way on = not_lost (on 1 1 leaving).leaving.gathered
+pub not_lost_on_the_way : (leaves : ℕ) → Proceeds 8 4 leaves rooted (2 ∷ []) rooted [] → ⊥
+not_lost_on_the_way leaves on = not_lost (on 1 1 (leaving leaves)).leaving.gathered
 
-pub not_taken_yet : (pool : List ℕ) → Proceeds 8 4 rooted (2 ∷ []) (set rooted 2 released) pool → ⊥
-not_taken_yet pool on = not_taken_back 1 (on 1 1 leaving).clears
+pub not_taken_yet : (leaves : ℕ) (pool : List ℕ) → Proceeds 8 4 leaves rooted (2 ∷ []) (set rooted 2 released) pool → ⊥
+not_taken_yet leaves pool on = not_taken_back 1 (on 1 1 (leaving leaves)).clears

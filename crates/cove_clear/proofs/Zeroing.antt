@@ -1,24 +1,20 @@
 -- What is left of a TVM's tables after one of their words became 0, while it is destroyed.
-use Rattle.std.proofs.Common.{◌≡◌, ◌≢◌, ℕ, ◌+◌, ◌*◌, ◌/◌, ◌%◌, ◌^◌, ◌<◌, ◌≤◌, ◌⊎◌, ◌∙◌, Bool, true, false, true≢false, eqb, eqb-true, eq-eqb, List, [], ◌∷◌, ◌++◌, get_or, length, length-set, set, refl, sym, ap, subst, inl, inr, arith, get_or-set_other, get_or-set_same}
+use Rattle.std.proofs.Common.{◌≡◌, ◌≢◌, ℕ, ◌+◌, ◌*◌, ◌^◌, ◌<◌, ◌≤◌, ◌⊎◌, ◌∙◌, Bool, true, false, true≢false, eqb, eqb-true, eq-eqb, List, [], ◌∷◌, ◌++◌, get_or, length, length-set, set, refl, sym, ap, subst, inl, inr, arith, get_or-set_other, get_or-set_same}
 use Rattle.std.proofs.lemmas.Bool.{cases_Bool, cases_eq, or_cases, or_left}
-use Rattle.cove_base.proofs.TableLemmas.{below-absent, below-table}
-use Rattle.cove_base.proofs.TreeLemmas.{entry-stands, last-number, link-slot, middle≢last, root≢last, root≢middle, slot-cases, stand-apart}
+use Rattle.cove_base.proofs.SlotStores.{zero-moves}
+use Rattle.cove_base.proofs.TableLemmas.{below-absent, below-named}
+use Rattle.cove_base.proofs.TreeLemmas.{entry-stands, slot-cases}
+use Rattle.cove_base.proofs.TreeStores.{OnlyAt, slot-store}
 use Rattle.cove_model.specs.Machine.{given, hart_word, table_word, Table, Data, AreOwned, ChangesTable, IsLawful, IsRoot, IsTableOf, Rewrites, has}
-use Rattle.cove_base.specs.Tables.{Slot, InRoot, InMiddle, InLast, IsAbsent, IsLeaf, IsLink, NoTable, ATable, IsLinkSlot, IsSlot, IsTree, Names, ByBlocked, ByPresent, StandsAt, below, entry_at, leaf_at, next_table}
+use Rattle.cove_base.specs.Tables.{Slot, At, IsAbsent, IsLeaf, IsLink, NoTable, IsSlot, IsTree, Names, ByBlocked, ByPresent, StandsAt, below, entry_at, next_table}
 use Rattle.cove_clear.specs.Clearing.{AreCounted, AreGathered, Clears, IsClearable}
 use Rattle.cove_model.proofs.Distinct.{distinct_append, has_left, has_right}
-use Rattle.cove_model.proofs.GuestStores.{zero_moves, zeros_keep_owned}
-use Rattle.cove_model.proofs.LeafWords.{blocked_named, given_role, none_named, present_named}
+use Rattle.cove_model.proofs.GuestStores.{zeros_keep_owned}
+use Rattle.cove_model.proofs.LeafWords.{blocked_named, given_role, next_named, none_named, present_named}
 use Rattle.cove_model.proofs.Members.{has_append}
 use Rattle.cove_model.proofs.OwnedStores.{IsOwnPlace, stands_in}
 use Rattle.cove_model.proofs.SharedLeaves.{stores_count_shared}
 use Rattle.cove_model.specs.TableLaw.{shared_leaves, shared_once}
-
--- a slot stands in the table that another names
-abbrev pub IsUnder : Slot → Slot → Type 0
-IsUnder (InRoot n) a = ⊥
-IsUnder (InMiddle n) a = InRoot (n / 512) ≡ a
-IsUnder (InLast g) a = InMiddle (g / 512) ≡ a
 
 -- a leaf names one page
 pub one_named : (p q : ℕ) (s r : Bool) (leaf : ℕ) → p < 2 ^ 16 → q < 2 ^ 16 → Names p s leaf → Names q r leaf → (p ≡ q) × (s ≡ r)
@@ -44,7 +40,7 @@ has_none x p pool out off = elim (cases_Bool (has p (pool ++ x ∷ []))) [
   | inr none ↦ none
 ]
 
-module _ (pages harts : ℕ) (words : List ℕ) (t root : ℕ) (clearable : IsClearable pages harts words t root) (a : Slot) (place : ℕ) (slot : IsSlot a)
+module _ (pages harts : ℕ) (words : List ℕ) (t root leaves : ℕ) (clearable : IsClearable pages harts words t root leaves) (a : Slot) (place : ℕ) (slot : IsSlot a)
     (at : StandsAt pages root words a place) where
   abbrev next : List ℕ
   next = set words place 0
@@ -78,7 +74,7 @@ module _ (pages harts : ℕ) (words : List ℕ) (t root : ℕ) (clearable : IsCl
   -- ---- an entry stays, or is 0
 
   moves : (r : ℕ) (b : Slot) → (entry_at pages r next b ≡ entry_at pages r words b) ⊎ (entry_at pages r next b ≡ 0)
-  moves r b = zero_moves pages r words place fits b
+  moves r b = zero-moves pages r words place fits b
 
   link_was : (r : ℕ) (b : Slot) (q : ℕ) → entry_at pages r next b ≡ next_table q → entry_at pages r words b ≡ next_table q
   link_was r b q named = elim (moves r b) [
@@ -86,10 +82,10 @@ module _ (pages harts : ℕ) (words : List ℕ) (t root : ℕ) (clearable : IsCl
     | inr gone ↦ let e = sym gone ∙ named in absurd (omega arith)
   ]
 
-  name_was : (r g p : ℕ) (s : Bool) → Names p s (leaf_at pages r next g) → Names p s (leaf_at pages r words g)
-  name_was r g p s named = elim (moves r (InLast g)) [
+  name_was : (r : ℕ) (b : Slot) (p : ℕ) (s : Bool) → Names p s (entry_at pages r next b) → Names p s (entry_at pages r words b)
+  name_was r b p s named = elim (moves r b) [
     | inl same ↦ subst (Names p s) same named
-    | inr gone ↦ absurd (none_named p s (leaf_at pages r next g) gone named)
+    | inr gone ↦ absurd (none_named p s (entry_at pages r next b) gone named)
   ]
 
   root_was : (u r : ℕ) → IsRoot pages next u r → IsRoot pages words u r
@@ -99,7 +95,7 @@ module _ (pages harts : ℕ) (words : List ℕ) (t root : ℕ) (clearable : IsCl
     least = λ p low e. let fit = is.fits in is.least p low (page_stays p (omega arith) ∙ e);
   }
 
-  next_tree : IsTree pages root next
+  next_tree : IsTree pages root leaves next
   next_tree = record {
     fits = clearable.tree.fits;
     size = subst (λ n. 513 * pages ≤ n) (sym (length-set words place 0)) clearable.tree.size;
@@ -107,14 +103,14 @@ module _ (pages harts : ℕ) (words : List ℕ) (t root : ℕ) (clearable : IsCl
       | inl same ↦ subst (IsLink pages root) (sym same) (clearable.tree.links b h)
       | inr gone ↦ NoTable gone
     ];
-    leaves = λ g h. elim (moves root (InLast g)) [
-      | inl same ↦ subst IsLeaf (sym same) (clearable.tree.leaves g h)
+    leaf = λ g h. elim (moves root (At leaves g)) [
+      | inl same ↦ subst IsLeaf (sym same) (clearable.tree.leaf g h)
       | inr gone ↦ IsAbsent gone
     ];
     apart = λ b c q hb hc nb nc. clearable.tree.apart b c q hb hc (link_was root b q nb) (link_was root c q nc);
   }
 
-  pub next_open : IsClearable pages harts next t root
+  pub next_open : IsClearable pages harts next t root leaves
   next_open = record {
     few = clearable.few;
     size = length-set words place 0 ∙ clearable.size;
@@ -128,7 +124,7 @@ module _ (pages harts : ℕ) (words : List ℕ) (t root : ℕ) (clearable : IsCl
     owned = λ u r is.
         subst (λ k. AreOwned pages (set words k 0) u r) (sym own.at)
         (zeros_keep_owned pages harts words own.page own.i u r clearable.size own.below own.low (clearable.owned u r (root_was u r is)));
-    once = λ g h p low high on first second. clearable.once g h p low high on (name_was root g p false first) (name_was root h p false second);
+    once = λ b c p hb hc on first second. clearable.once b c p hb hc on (name_was root b p false first) (name_was root c p false second);
   }
 
   pub next_clears : Clears pages words next t
@@ -156,60 +152,11 @@ module _ (pages harts : ℕ) (words : List ℕ) (t root : ℕ) (clearable : IsCl
 
   -- ---- one entry goes, where nothing stands under it
 
-  module _ (bare : (b : Slot) → IsSlot b → IsUnder b a → entry_at pages root words b ≡ 0) where
-    under : (u : Slot) (i : ℕ) → IsLinkSlot u → entry_at pages root next u ≡ entry_at pages root words u
-        → ((page : ℕ) → entry_at pages root words u ≡ next_table page → place ≢ table_word pages page i)
-        → below pages next (entry_at pages root next u) i ≡ below pages words (entry_at pages root words u) i
-    under u i link same apart = ap (λ k. below pages next k i) same ∙ go (clearable.tree.links u link)
-      where
-        go : IsLink pages root (entry_at pages root words u) → below pages next (entry_at pages root words u) i ≡ below pages words (entry_at pages root words u) i
-        go (NoTable e) =
-            ap (λ k. below pages next k i) e ∙ below-absent pages next i ∙ sym (ap (λ k. below pages words k i) e ∙ below-absent pages words i)
-        go (ATable page out e) =
-            ap (λ k. below pages next k i) e ∙ below-table pages next page i
-            ∙ get_or-set_other words place (table_word pages page i) 0 0 (λ q. apart page e (sym q))
-            ∙ sym (ap (λ k. below pages words k i) e ∙ below-table pages words page i)
-
-    root_other : (n : ℕ) → n < 2048 → InRoot n ≢ a → entry_at pages root next (InRoot n) ≡ entry_at pages root words (InRoot n)
-    root_other n h off =
-        get_or-set_other words place (table_word pages root n) 0 0
-        (λ e. off (stand-apart pages root words clearable.tree (InRoot n) a place h slot (sym e) at))
-
-    middle_still : (n : ℕ) → n < 2 ^ 20 → InMiddle n ≢ a → InRoot (n / 512) ≢ a → entry_at pages root next (InMiddle n) ≡ entry_at pages root words (InMiddle n)
-    middle_still n h off above =
-        under (InRoot (n / 512)) (n % 512) (omega arith) (root_other (n / 512) (omega arith) above)
-        (λ page named q. off (stand-apart pages root words clearable.tree (InMiddle n) a place h slot (page, named, q) at))
-
-    here_of : (b : Slot) → IsSlot b → StandsAt pages root words b place → b ≡ a → entry_at pages root next b ≡ 0
-    here_of (InRoot n) h st e = ap (λ p. get_or next p 0) (sym st) ∙ get_or-set_same words place 0 0 fits
-    here_of (InMiddle n) h st e =
-        let above = root_other (n / 512) (omega arith) (λ q. root≢middle (n / 512) n (q ∙ sym e)) in
-        ap (λ k. below pages next k (n % 512)) (above ∙ st.1) ∙ below-table pages next st.0 (n % 512)
-        ∙ ap (λ p. get_or next p 0) (sym st.2) ∙ get_or-set_same words place 0 0 fits
-    here_of (InLast g) h st e =
-        let above = middle_still (g / 512) (omega arith) (λ q. middle≢last (g / 512) g (q ∙ sym e)) (λ q. root≢last (g / 512 / 512) g (q ∙ sym e)) in
-        ap (λ k. below pages next k (g % 512)) (above ∙ st.1) ∙ below-table pages next st.0 (g % 512)
-        ∙ ap (λ p. get_or next p 0) (sym st.2) ∙ get_or-set_same words place 0 0 fits
-
-    pub next_here : entry_at pages root next a ≡ 0
-    next_here = here_of a slot at refl
-
-    middle_other : (n : ℕ) → n < 2 ^ 20 → InMiddle n ≢ a → entry_at pages root next (InMiddle n) ≡ entry_at pages root words (InMiddle n)
-    middle_other n h off = elim (slot-cases (InRoot (n / 512)) a) [
-      | inl up ↦
-          ap (λ k. below pages next k (n % 512)) (ap (entry_at pages root next) up ∙ next_here) ∙ below-absent pages next (n % 512) ∙ sym (bare (InMiddle n) h up)
-      | inr off_root ↦ middle_still n h off off_root
-    ]
-
-    pub next_other : (b : Slot) → IsSlot b → b ≢ a → entry_at pages root next b ≡ entry_at pages root words b
-    next_other (InRoot n) h off = root_other n h off
-    next_other (InMiddle n) h off = middle_other n h off
-    next_other (InLast g) h off = elim (slot-cases (InMiddle (g / 512)) a) [
-      | inl up ↦
-          ap (λ k. below pages next k (g % 512)) (ap (entry_at pages root next) up ∙ next_here) ∙ below-absent pages next (g % 512) ∙ sym (bare (InLast g) h up)
-      | inr off_middle ↦ under (InMiddle (g / 512)) (g % 512) (omega arith) (middle_other (g / 512) (omega arith) off_middle)
-          (λ page named q. off (stand-apart pages root words clearable.tree (InLast g) a place h slot (page, named, q) at))
-    ]
+  module _ (bare : (i : ℕ) → i < 512 → below pages words (entry_at pages root words a) i ≡ 0) where
+    pub only : OnlyAt pages root words next a 0
+    only =
+        slot-store pages root leaves words place 0 a (record { tree = clearable.tree; slot = slot; at = at })
+        (λ i low. below-absent pages next i ∙ sym (ap (λ k. below pages words k i) (sym (entry-stands pages root words a place at)) ∙ bare i low))
 
     module _ (pool : List ℕ) (gathered : AreGathered pages words t root pool) where
       zero_stays : (p i : ℕ) → get_or words (table_word pages p i) 0 ≡ 0 → get_or next (table_word pages p i) 0 ≡ 0
@@ -226,90 +173,87 @@ module _ (pages harts : ℕ) (words : List ℕ) (t root : ℕ) (clearable : IsCl
 
       -- ---- a shared leaf goes: no page is gathered
 
-      module _ (g q : ℕ) (is_leaf : a ≡ InLast g) (low : g < 2 ^ 29) (small : q < 2 ^ 16) (names : Names q true (leaf_at pages root words g)) where
+      module _ (q : ℕ) (small : q < 2 ^ 16) (names : Names q true (entry_at pages root words a)) where
+        no_table : (p : ℕ) → entry_at pages root words a ≡ next_table p → ⊥
+        no_table p e = next_named q true (entry_at pages root words a) p e names
+
+        not_own : (p : ℕ) → p < pages → Names p false (entry_at pages root words a) → ⊥
+        not_own p on named =
+            let few = clearable.few in
+            true≢false (sym (one_named p q false true (entry_at pages root words a) (omega arith) small named names).1)
+
         pub shared_gathered : AreGathered pages next t root pool
         shared_gathered = record {
           differ = gathered.differ;
           on_board = gathered.on_board;
           own = own_stays;
           empty = λ p i there is i-low. zero_stays p i (gathered.empty p i there (sym (page_stays p (gathered.on_board p there)) ∙ is) i-low);
-          unlinked = λ b p link named. gathered.unlinked b p link (link_was root b p named);
-          unmapped = λ h p h-low on named. gathered.unmapped h p h-low on (name_was root h p false named);
+          unlinked = λ b p h named. gathered.unlinked b p h (link_was root b p named);
+          unmapped = λ b p h on named. gathered.unmapped b p h on (name_was root b p false named);
           tables = λ p on is. elim (gathered.tables p on (sym (page_stays p on) ∙ is)) [
             | inl there ↦ inl there
-            | inr linked ↦ inr (
-              linked.0,
-              linked.1,
-              next_other linked.0 (link-slot linked.0 linked.1) (λ e. subst IsLinkSlot (e ∙ is_leaf) linked.1) ∙ linked.2,
-            )
+            | inr linked ↦
+                let off : linked.0 ≢ a = λ e. no_table p (ap (entry_at pages root words) (sym e) ∙ linked.2) in
+                inr (linked.0, linked.1, only.others linked.0 linked.1 off ∙ linked.2)
           ];
           memory = λ p on is. elim (gathered.memory p on (sym (page_stays p on) ∙ is)) [
             | inl there ↦ inl there
             | inr mapped ↦
-                let few = clearable.few in
-                let off : InLast mapped.0 ≢ a = λ e.
-                let same = last-number mapped.0 g (e ∙ is_leaf) in
-                let both = one_named p q false true (leaf_at pages root words g) (omega arith) small (subst (λ h. Names p false (leaf_at pages root words h)) same mapped.2) names in
-                true≢false (sym both.1) in
-                inr (mapped.0, mapped.1, subst (Names p false) (sym (next_other (InLast mapped.0) mapped.1 off)) mapped.2)
+                let off : mapped.0 ≢ a = λ e. not_own p on (subst (λ b. Names p false (entry_at pages root words b)) e mapped.2) in
+                inr (mapped.0, mapped.1, subst (Names p false) (sym (only.others mapped.0 mapped.1 off)) mapped.2)
           ];
         }
 
       -- ---- a table or a page of memory goes: it is gathered
 
-      abbrev pub IsTaken : ℕ → Type 0
-      IsTaken x =
-          (IsLinkSlot a × (entry_at pages root words a ≡ next_table x))
-          ⊎ ((g : ℕ) × (a ≡ InLast g) × (g < 2 ^ 29) × Names x false (leaf_at pages root words g))
-
-      module _ (x : ℕ) (on : x < pages) (taken : IsTaken x) (zeros : IsLinkSlot a → (i : ℕ) → i < 512 → get_or words (table_word pages x i) 0 ≡ 0) where
+      module _ (x : ℕ) (on : x < pages) (taken : (entry_at pages root words a ≡ next_table x) ⊎ Names x false (entry_at pages root words a)) where
         x-small : x < 2 ^ 16
         x-small = let few = clearable.few in omega arith
 
         -- its word
-        linked_word : (b : Slot) → IsLinkSlot b → entry_at pages root words b ≡ next_table x → get_or words x 0 ≡ given t Table
-        linked_word b link named = (mine.linked b x link named).1
+        linked_word : (b : Slot) → IsSlot b → entry_at pages root words b ≡ next_table x → get_or words x 0 ≡ given t Table
+        linked_word b h named = (mine.linked b x h named).1
 
-        mapped_word : (g : ℕ) → g < 2 ^ 29 → Names x false (leaf_at pages root words g) → get_or words x 0 ≡ given t Data
-        mapped_word g low named = (mine.backed g x false low x-small named).1
+        mapped_word : (b : Slot) → IsSlot b → Names x false (entry_at pages root words b) → get_or words x 0 ≡ given t Data
+        mapped_word b h named = (mine.backed b x false h x-small named).1
 
         not_both : get_or words x 0 ≡ given t Table → get_or words x 0 ≡ given t Data → ⊥
         not_both table is = absurd (omega (arith, given_role t t Table Data (sym table ∙ is)))
 
         fresh : has x pool ≡ false
         fresh = elim taken [
-          | inl link ↦ gathered.unlinked a x link.0 link.1
-          | inr leaf ↦ gathered.unmapped leaf.0 x leaf.2 on leaf.3
+          | inl link ↦ gathered.unlinked a x slot link
+          | inr leaf ↦ gathered.unmapped a x slot on leaf
         ]
 
         x_word : (get_or next x 0 ≡ given t Table) ⊎ (get_or next x 0 ≡ given t Data)
         x_word = elim taken [
-          | inl link ↦ inl (page_stays x on ∙ linked_word a link.0 link.1)
-          | inr leaf ↦ inr (page_stays x on ∙ mapped_word leaf.0 leaf.2 leaf.3)
+          | inl link ↦ inl (page_stays x on ∙ linked_word a slot link)
+          | inr leaf ↦ inr (page_stays x on ∙ mapped_word a slot leaf)
         ]
 
         x_empty : (i : ℕ) → i < 512 → get_or words x 0 ≡ given t Table → get_or words (table_word pages x i) 0 ≡ 0
         x_empty i low is = elim taken [
-          | inl link ↦ zeros link.0 i low
-          | inr leaf ↦ absurd (not_both is (mapped_word leaf.0 leaf.2 leaf.3))
+          | inl link ↦ sym (below-named pages words (entry_at pages root words a) x i link) ∙ bare i low
+          | inr leaf ↦ absurd (not_both is (mapped_word a slot leaf))
         ]
 
         -- no entry that is left names it
-        no_link : (b : Slot) → IsLinkSlot b → entry_at pages root next b ≡ next_table x → ⊥
-        no_link b link named = elim taken [
-          | inl one ↦
-              let same = clearable.tree.apart b a x link one.0 (link_was root b x named) one.1 in
-              let none : 0 ≡ next_table x = sym (ap (entry_at pages root next) same ∙ next_here) ∙ named in
+        no_link : (b : Slot) → IsSlot b → entry_at pages root next b ≡ next_table x → ⊥
+        no_link b h named = elim taken [
+          | inl link ↦
+              let same = clearable.tree.apart b a x h slot (link_was root b x named) link in
+              let none : 0 ≡ next_table x = sym (ap (entry_at pages root next) same ∙ only.here) ∙ named in
               omega arith
-          | inr leaf ↦ not_both (linked_word b link (link_was root b x named)) (mapped_word leaf.0 leaf.2 leaf.3)
+          | inr leaf ↦ not_both (linked_word b h (link_was root b x named)) (mapped_word a slot leaf)
         ]
 
-        no_leaf : (g : ℕ) → g < 2 ^ 29 → Names x false (leaf_at pages root next g) → ⊥
-        no_leaf g low named = elim taken [
-          | inl one ↦ not_both (linked_word a one.0 one.1) (mapped_word g low (name_was root g x false named))
+        no_leaf : (b : Slot) → IsSlot b → Names x false (entry_at pages root next b) → ⊥
+        no_leaf b h named = elim taken [
+          | inl link ↦ not_both (linked_word a slot link) (mapped_word b h (name_was root b x false named))
           | inr leaf ↦
-              let same = clearable.once g leaf.0 x low leaf.2 on (name_was root g x false named) leaf.3 in
-              none_named x false (leaf_at pages root next g) (ap (λ h. leaf_at pages root next h) same ∙ ap (entry_at pages root next) (sym leaf.1) ∙ next_here) named
+              let same = clearable.once b a x h slot on (name_was root b x false named) leaf in
+              none_named x false (entry_at pages root next b) (ap (entry_at pages root next) same ∙ only.here) named
         ]
 
         abbrev more : List ℕ
@@ -318,31 +262,29 @@ module _ (pages harts : ℕ) (words : List ℕ) (t root : ℕ) (clearable : IsCl
         x_there : (p : ℕ) → x ≡ p → has p more ≡ true
         x_there p e = has_right p pool (x ∷ []) (has_one x p e)
 
-        tables_left : (p : ℕ) (b : Slot) → IsLinkSlot b → entry_at pages root words b ≡ next_table p
-            → (has p more ≡ true) ⊎ ((c : Slot) × IsLinkSlot c × (entry_at pages root next c ≡ next_table p))
-        tables_left p b link named = elim (slot-cases b a) [
-          | inl same ↦ elim taken [
-            | inl one ↦
-                let both : next_table x ≡ next_table p = sym one.1 ∙ ap (entry_at pages root words) (sym same) ∙ named in
-                inl (x_there p (omega arith))
-            | inr leaf ↦ absurd (subst IsLinkSlot (same ∙ leaf.1) link)
-          ]
-          | inr off ↦ inr (b, link, next_other b (link-slot b link) off ∙ named)
+        tables_left : (p : ℕ) (b : Slot) → IsSlot b → entry_at pages root words b ≡ next_table p
+            → (has p more ≡ true) ⊎ ((c : Slot) × IsSlot c × (entry_at pages root next c ≡ next_table p))
+        tables_left p b h named = elim (slot-cases b a) [
+          | inr off ↦ inr (b, h, only.others b h off ∙ named)
+          | inl same ↦
+              let here : entry_at pages root words a ≡ next_table p = ap (entry_at pages root words) (sym same) ∙ named in
+              elim taken [
+                | inl link ↦ let both : next_table x ≡ next_table p = sym link ∙ here in inl (x_there p (omega arith))
+                | inr leaf ↦ absurd (next_named x false (entry_at pages root words a) p here leaf)
+              ]
         ]
 
-        memory_left : (p g : ℕ) → p < pages → g < 2 ^ 29 → Names p false (leaf_at pages root words g)
-            → (has p more ≡ true) ⊎ ((h : ℕ) × (h < 2 ^ 29) × Names p false (leaf_at pages root next h))
-        memory_left p g p-on low named = elim (slot-cases (InLast g) a) [
-          | inl same ↦ elim taken [
-            | inl one ↦ absurd (subst IsLinkSlot (sym same) one.0)
-            | inr leaf ↦
-                let few = clearable.few in
-                let is = last-number g leaf.0 (same ∙ leaf.1) in
-                let both = one_named x p false false (leaf_at pages root words leaf.0) x-small (omega arith) leaf.3
-                (subst (λ h. Names p false (leaf_at pages root words h)) is named) in
-                inl (x_there p both.0)
-          ]
-          | inr off ↦ inr (g, low, subst (Names p false) (sym (next_other (InLast g) low off)) named)
+        memory_left : (p : ℕ) (b : Slot) → p < pages → IsSlot b → Names p false (entry_at pages root words b)
+            → (has p more ≡ true) ⊎ ((c : Slot) × IsSlot c × Names p false (entry_at pages root next c))
+        memory_left p b p-on h named = elim (slot-cases b a) [
+          | inr off ↦ inr (b, h, subst (Names p false) (sym (only.others b h off)) named)
+          | inl same ↦
+              let few = clearable.few in
+              let here = subst (λ c. Names p false (entry_at pages root words c)) same named in
+              elim taken [
+                | inl link ↦ absurd (next_named p false (entry_at pages root words a) x link here)
+                | inr leaf ↦ inl (x_there p (one_named x p false false (entry_at pages root words a) x-small (omega arith) leaf here).0)
+              ]
         ]
 
         pub taken_gathered : AreGathered pages next t root (pool ++ x ∷ [])
@@ -363,12 +305,12 @@ module _ (pages harts : ℕ) (words : List ℕ) (t root : ℕ) (clearable : IsCl
                 let was : get_or words x 0 ≡ given t Table = sym (page_stays x on) ∙ ap (λ n. get_or next n 0) same ∙ is in
                 zero_stays p i (subst (λ n. get_or words (table_word pages n i) 0 ≡ 0) same (x_empty i low was))
           ];
-          unlinked = λ b p link named.
-              has_none x p pool (gathered.unlinked b p link (link_was root b p named))
-              (λ same. no_link b link (named ∙ ap next_table (sym same)));
-          unmapped = λ g p low p-on named.
-              has_none x p pool (gathered.unmapped g p low p-on (name_was root g p false named))
-              (λ same. no_leaf g low (subst (λ n. Names n false (leaf_at pages root next g)) (sym same) named));
+          unlinked = λ b p h named.
+              has_none x p pool (gathered.unlinked b p h (link_was root b p named))
+              (λ same. no_link b h (named ∙ ap next_table (sym same)));
+          unmapped = λ b p h p-on named.
+              has_none x p pool (gathered.unmapped b p h p-on (name_was root b p false named))
+              (λ same. no_leaf b h (subst (λ n. Names n false (entry_at pages root next b)) (sym same) named));
           tables = λ p p-on is. elim (gathered.tables p p-on (sym (page_stays p p-on) ∙ is)) [
             | inl there ↦ inl (has_left p pool (x ∷ []) there)
             | inr linked ↦ tables_left p linked.0 linked.1 linked.2

@@ -4,21 +4,21 @@
 ghost use Rattle.std.specs.Prelude.{◌≡◌, ℕ, List, [], ◌∷◌, slice_set};
 ghost use Rattle.cove_base.specs.PageWords.{given, host, released};
 ghost use Rattle.cove_base.specs.Places.{epoch_word, table_word};
-ghost use Rattle.cove_base.specs.Tables.{IsLinkSlot, Slot, entry_at, next_table};
+ghost use Rattle.cove_base.specs.Tables.{IsSlot, Slot, entry_at, next_table};
 ghost use Rattle.cove_base.specs.declared.numbers.Role.TheVariants.{Data};
 ghost use Rattle.cove_clear.specs.Clearing.{AreGathered, Clears, IsBeingCleared, MayBeCleared, Proceeds};
 ghost use Rattle.cove_model.specs.LawfulStores.{IsLawful};
 ghost use Rattle.cove_model.specs.TableExamples.{entered_words, rooted};
 
-/// TVM 1 may be destroyed further where page 2 of its memory, which no leaf names, was gathered; not where a hart is inside, or
-/// where page 0 of the host's counts a leaf that is none. Its words must allow every lawful store.
+/// TVM 1, whatever its mode, may be destroyed further where page 2 of its memory, which no leaf names, was gathered; not where a
+/// hart is inside, or where page 0 of the host's counts a leaf that is none. Its words must allow every lawful store.
 pub fn worked_being_cleared()
-    ensures leaving { IsBeingCleared 8 1 rooted 1 4 (2 ∷ []) }
-    ensures inside { IsBeingCleared 8 1 entered_words 1 4 (2 ∷ []) → ⊥ }
-    ensures lost { IsBeingCleared 8 1 rooted 1 4 [] → ⊥ }
-    ensures miscounted { IsBeingCleared 8 1 (slice_set rooted 0 (host 1)) 1 4 (2 ∷ []) → ⊥ }
-    ensures may { MayBeCleared (IsLawful 8 1 0 rooted) 8 4 rooted (2 ∷ []) }
-    ensures may_not { (words pool : List ℕ) → MayBeCleared (λ old place word. ⊥) 8 4 words pool → ⊥ }
+    ensures leaving { (leaves : ℕ) → IsBeingCleared 8 1 rooted 1 4 leaves (2 ∷ []) }
+    ensures inside { (leaves : ℕ) → IsBeingCleared 8 1 entered_words 1 4 leaves (2 ∷ []) → ⊥ }
+    ensures lost { (leaves : ℕ) → IsBeingCleared 8 1 rooted 1 4 leaves [] → ⊥ }
+    ensures miscounted { (leaves : ℕ) → IsBeingCleared 8 1 (slice_set rooted 0 (host 1)) 1 4 leaves (2 ∷ []) → ⊥ }
+    ensures may { (leaves : ℕ) → MayBeCleared (IsLawful 8 1 0 rooted) 8 4 leaves rooted (2 ∷ []) }
+    ensures may_not { (leaves : ℕ) (words pool : List ℕ) → MayBeCleared (λ old place word. ⊥) 8 4 leaves words pool → ⊥ }
 {}
 
 /// Each page of the TVM's tables and memory is gathered once, or named by an entry; no other page is.
@@ -27,7 +27,7 @@ pub fn worked_gathering()
     ensures lost { AreGathered 8 rooted 1 4 [] → ⊥ }
     ensures twice { AreGathered 8 rooted 1 4 (2 ∷ 2 ∷ []) → ⊥ }
     ensures of_the_host { AreGathered 8 rooted 1 4 (2 ∷ 0 ∷ []) → ⊥ }
-    ensures named_still { (words : List ℕ) (a : Slot) → IsLinkSlot a → entry_at 8 4 words a ≡ next_table 2
+    ensures named_still { (words : List ℕ) (a : Slot) → IsSlot a → entry_at 8 4 words a ≡ next_table 2
         → AreGathered 8 words 1 4 (2 ∷ []) → ⊥ }
 {}
 
@@ -45,7 +45,7 @@ pub fn worked_clearing()
 
 /// A TVM goes on to the same words; no page that was gathered is lost on the way, and no page of its memory is taken back yet.
 pub fn worked_going()
-    ensures same { (words pool : List ℕ) → Proceeds 8 4 words pool words pool }
-    ensures lost { Proceeds 8 4 rooted (2 ∷ []) rooted [] → ⊥ }
-    ensures taken_back { (pool : List ℕ) → Proceeds 8 4 rooted (2 ∷ []) (slice_set rooted 2 released) pool → ⊥ }
+    ensures same { (leaves : ℕ) (words pool : List ℕ) → Proceeds 8 4 leaves words pool words pool }
+    ensures lost { (leaves : ℕ) → Proceeds 8 4 leaves rooted (2 ∷ []) rooted [] → ⊥ }
+    ensures taken_back { (leaves : ℕ) (pool : List ℕ) → Proceeds 8 4 leaves rooted (2 ∷ []) (slice_set rooted 2 released) pool → ⊥ }
 {}

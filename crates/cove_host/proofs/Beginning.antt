@@ -1,17 +1,19 @@
 -- What holds of a TVM before it is destroyed.
-use Rattle.std.proofs.Common.{◌≡◌, ℕ, zero, suc, ◌+◌, ◌*◌, ◌/◌, ◌^◌, ◌<◌, ◌≤◌, ◌⊎◌, ◌∙◌, ◌||◌, Bool, true, false, true≢false, cond, eqb, eqb-true, eq-eqb, List, [], ◌∷◌, get_or, length, map, Option, Some, None, refl, sym, ap, subst, inl, inr, arith}
-use Rattle.std.proofs.lemmas.Bool.{cases_Bool, eq-eqb, ne_eqb, or_cases, or_left, or_right}
+use Rattle.std.proofs.Common.{◌≡◌, ℕ, zero, suc, ◌+◌, ◌*◌, ◌/◌, ◌%◌, ◌^◌, ◌<◌, ◌≤◌, ◌⊎◌, ◌∙◌, ◌||◌, Bool, true, false, true≢false, cond, eqb, eqb-true, eq-eqb, List, [], ◌∷◌, get_or, length, map, Option, Some, None, refl, sym, ap, subst, inl, inr, arith}
+use Rattle.std.proofs.lemmas.Bool.{cases_Bool, cases_lt, eq-eqb, ne_eqb, or_cases, or_left, or_right}
 use Rattle.std.proofs.lemmas.List.{get_or_default}
 use Rattle.std.proofs.lemmas.Option.{none-some}
 use Rattle.std.specs.Prelude.{Contains}
-use Rattle.cove_base.proofs.TreeLemmas.{named-outside}
+use Rattle.cove_base.proofs.TableLemmas.{next-cases}
+use Rattle.cove_base.proofs.TreeLemmas.{named-above, named-outside}
+use Rattle.cove_base.specs.Modes.{leaves_of}
 use Rattle.cove_model.specs.Machine.{given, host, hart_word, Root, Table, Data, at, AreOwned, IsBehindLeaf, IsLeft, IsRoot, mapping_of, page_under, AreDistinct, IsOrderly, AsData, Converting, Free, Given, Host, Owner, Purpose, has, page_at, IsBacked, IsSound, IsSoundMapping, IsSoundTvm, PageStands, answered_in, epoch_in, maps_of, role_of}
-use Rattle.cove_base.specs.Tables.{Slot, InMiddle, IsLinkSlot, Names, entry_at, leaf_at, next_table, present}
+use Rattle.cove_base.specs.Tables.{Slot, At, ATable, IsLink, IsSlot, Names, NoTable, entry_at, entry_in, leaf_at, next_table, present, slots_at}
 use Rattle.cove_clear.proofs.Counting.{leaf_counts}
 use Rattle.cove_clear.specs.Clearing.{AreCounted, AreGathered, IsBeingCleared}
 use Rattle.cove_host.specs.HartsInside.{is_inside}
 use Rattle.cove_model.proofs.KeyedLemmas.{at_key}
-use Rattle.cove_model.proofs.LeafWords.{blocked_named, given_host, given_role, none_named, present_named}
+use Rattle.cove_model.proofs.LeafWords.{blocked_named, given_host, given_role, next_named, none_named, present_named}
 use Rattle.cove_model.proofs.Lists.{all_at}
 use Rattle.cove_model.proofs.OwnedStores.{one_root}
 use Rattle.cove_model.proofs.StandLemmas.{host_page}
@@ -99,14 +101,35 @@ module _ (words : List ℕ) (G : Ground) (S : MonitorState) (stands : Stands wor
     abbrev root : ℕ
     root = tvm.tables.root.0
 
+    abbrev leaves : ℕ
+    leaves = leaves_of tvm.tables.mode
+
+    -- an entry that names a page as a leaf is at the depth of the leaves
+    link_unnamed : (p entry : ℕ) (s : Bool) → IsLink G.pages root entry → Names p s entry → ⊥
+    link_unnamed p entry s (NoTable e) named = none_named p s entry e named
+    link_unnamed p entry s (ATable q out e) named = next_named p s entry q e named
+
+    not_deeper : (d n p : ℕ) (s : Bool) → leaves < d → n < slots_at d → Names p s (entry_in G.pages root words d n) → ⊥
+    not_deeper zero n p s deep slot named = omega arith
+    not_deeper (suc d) n p s deep slot named = elim (next-cases G.pages (entry_in G.pages root words d (n / 512))) [
+      | inl (q, link) ↦ let above = (named-above G.pages root leaves words live.tables.tree (At d (n / 512)) q (omega arith) link).0 in omega (arith, above)
+      | inr none ↦ none_named p s (entry_in G.pages root words (suc d) n) (none words (n % 512)) named
+    ]
+
+    leaf_depth : (d n p : ℕ) (s : Bool) → n < slots_at d → Names p s (entry_in G.pages root words d n) → d ≡ leaves
+    leaf_depth d n p s slot named = elim (cases_lt d leaves) [
+      | inl above ↦ absurd (link_unnamed p (entry_in G.pages root words d n) s (live.tables.tree.links (At d n) (above, slot)) named)
+      | inr low ↦ elim (cases_lt leaves d) [ inl deep ↦ absurd (not_deeper d n p s deep slot named) | inr high ↦ omega (arith, low, high) ]
+    ]
+
     -- what is behind a leaf that names a page
     record Maps (g p : ℕ) (shared : Bool) : Type 0 where
       on : p < G.pages
       behind : IsBehindLeaf words u p shared
       own : shared ≡ false → page_at S.pages p ≡ Given u (AsData g)
 
-    board_link : (g : ℕ) → g < 2 ^ 29 → (page : ℕ) → entry_at G.pages root words (InMiddle (g / 512)) ≡ next_table page → page < G.pages
-    board_link g low page named = (named-outside G.pages root words live.tables.tree (InMiddle (g / 512)) page (omega arith) named).0
+    board_link : (a : Slot) (page : ℕ) → IsSlot a → entry_at G.pages root words a ≡ next_table page → page < G.pages
+    board_link a page slot named = (named-outside G.pages root leaves words live.tables.tree a page slot named).0
 
     sound_mapping : (g : ℕ) (m : Mapping) → mapping_of model g ≡ Some m → IsBacked S.pages u g m.backing
     sound_mapping g m maps =
@@ -116,11 +139,11 @@ module _ (words : List ℕ) (G : Ground) (S : MonitorState) (stands : Stands wor
         let guest = at_key (λ (x : Mapping). x.guest) g model.mappings m maps in
         subst (λ n. IsBacked S.pages n g m.backing) number (subst (λ n. IsBacked S.pages model.number n m.backing) guest one.backed)
 
-    module _ (g p : ℕ) (shared : Bool) (low : g < 2 ^ 29) (small : p < 2 ^ 16) (named : Names p shared (leaf_at G.pages root words g)) where
+    module _ (g p : ℕ) (shared : Bool) (low : g < slots_at leaves) (small : p < 2 ^ 16) (named : Names p shared (leaf_at G.pages root leaves words g)) where
       same_page : (q : ℕ) (kind : Bool) (s : Standing) → q < 2 ^ 16
-          → StandingStands G.pages G.harts words u (present q kind) (leaf_at G.pages root words g) s → (p ≡ q) × (shared ≡ kind)
-      same_page q kind Present q-small is = present_named p shared (leaf_at G.pages root words g) q kind is named
-      same_page q kind (Blocked held waiting) q-small is = blocked_named p shared (leaf_at G.pages root words g) q kind is.since small q-small is.is named
+          → StandingStands G.pages G.harts words u (present q kind) (leaf_at G.pages root leaves words g) s → (p ≡ q) × (shared ≡ kind)
+      same_page q kind Present q-small is = present_named p shared (leaf_at G.pages root leaves words g) q kind is named
+      same_page q kind (Blocked held waiting) q-small is = blocked_named p shared (leaf_at G.pages root leaves words g) q kind is.since small q-small is.is named
 
       own_maps : (own : List ℕ) → p < G.pages → IsBacked S.pages u g (OwnPage p own) → shared ≡ false → Maps g p shared
       own_maps own on backed kind =
@@ -136,7 +159,7 @@ module _ (words : List ℕ) (G : Ground) (S : MonitorState) (stands : Stands wor
           let held = host_page (page_at S.pages p) backed in
           let word : get_or words p 0 ≡ host (maps_of S p) =
           subst (PageStands G.harts (epoch_in G.pages words) (answered_in G.pages words) (maps_of S p) (get_or words p 0)) held.1 (page_is p on) in
-          let some = leaf_counts G.pages words root g p long (board_link g low) low small (subst (λ s. Names p s (leaf_at G.pages root words g)) kind named) in
+          let some = leaf_counts G.pages words root long live.tables.tree.fits board_link (At leaves g) p low small (subst (λ s. Names p s (leaf_at G.pages root leaves words g)) kind named) in
           let count = stands.counted p on in
           record {
             on = on;
@@ -144,7 +167,7 @@ module _ (words : List ℕ) (G : Ground) (S : MonitorState) (stands : Stands wor
             own = λ e. absurd (true≢false (sym kind ∙ e));
           }
 
-      by_backing : (b : Backing) (s : Standing) → (page_under b < G.pages) × StandingStands G.pages G.harts words u (leaf_of b) (leaf_at G.pages root words g) s
+      by_backing : (b : Backing) (s : Standing) → (page_under b < G.pages) × StandingStands G.pages G.harts words u (leaf_of b) (leaf_at G.pages root leaves words g) s
           → IsBacked S.pages u g b → Maps g p shared
       by_backing (OwnPage page own) s st backed =
           let on : page < G.pages = st.0 in
@@ -158,24 +181,32 @@ module _ (words : List ℕ) (G : Ground) (S : MonitorState) (stands : Stands wor
       leaf_maps : Maps g p shared
       leaf_maps = go (mapping_of model g) refl (live.mappings.leaf g low)
         where
-          go : (m : Option Mapping) → mapping_of model g ≡ m → LeafStands G.pages G.harts words u (leaf_at G.pages root words g) m → Maps g p shared
-          go None is stand = absurd (none_named p shared (leaf_at G.pages root words g) stand named)
+          go : (m : Option Mapping) → mapping_of model g ≡ m → LeafStands G.pages G.harts words u (leaf_at G.pages root leaves words g) m → Maps g p shared
+          go None is stand = absurd (none_named p shared (leaf_at G.pages root leaves words g) stand named)
           go (Some m) is stand = by_backing m.backing m.standing stand (sound_mapping g m is)
+
+    -- an entry that names a page as a leaf is the leaf of a guest page
+    slot_maps : (a : Slot) (p : ℕ) (shared : Bool) → IsSlot a → p < 2 ^ 16 → Names p shared (entry_at G.pages root words a) → (g : ℕ) × (a ≡ At leaves g) × Maps g p shared
+    slot_maps (At d n) p shared slot small named =
+        let deep = leaf_depth d n p shared slot named in (
+          n,
+          ap (λ k. At k n) deep,
+          leaf_maps n p shared (subst (λ k. n < slots_at k) deep slot) small (subst (λ k. Names p shared (entry_in G.pages root words k n)) deep named),
+        )
 
     live_owned : AreOwned G.pages words u root
     live_owned = record {
       root_is = live.tables.given.root_is;
-      linked = λ a page link named.
-          ((named-outside G.pages root words live.tables.tree a page link named).0, live.tables.given.linked a page link named);
+      linked = λ a page slot named. (board_link a page slot named, live.tables.given.linked a page slot named);
       apart = live.tables.tree.apart;
-      backed = λ g page shared low small named. let maps = leaf_maps g page shared low small named in (maps.on, maps.behind);
+      backed = λ a page shared slot small named. let maps = (slot_maps a page shared slot small named).2 in (maps.on, maps.behind);
     }
 
-    live_once : (g h p : ℕ) → g < 2 ^ 29 → h < 2 ^ 29 → p < G.pages → Names p false (leaf_at G.pages root words g) → Names p false (leaf_at G.pages root words h) → g ≡ h
-    live_once g h p low high on first second =
-        let one = (leaf_maps g p false low (omega arith) first).own refl in
-        let two = (leaf_maps h p false high (omega arith) second).own refl in
-        data_guest u g u h (sym one ∙ two)
+    live_once : (a b : Slot) (p : ℕ) → IsSlot a → IsSlot b → p < G.pages → Names p false (entry_at G.pages root words a) → Names p false (entry_at G.pages root words b) → a ≡ b
+    live_once a b p slot other on first second =
+        let one = slot_maps a p false slot (omega arith) first in
+        let two = slot_maps b p false other (omega arith) second in
+        one.1 ∙ ap (At leaves) (data_guest u one.0 u two.0 (sym (one.2.own refl) ∙ two.2.own refl)) ∙ sym two.1
 
     no_data : (p : ℕ) → get_or words p 0 ≡ given u Table → get_or words p 0 ≡ given u Data → ⊥
     no_data p table is = absurd (omega (arith, given_role u u Table Data (sym table ∙ is)))
@@ -198,15 +229,15 @@ module _ (words : List ℕ) (G : Ground) (S : MonitorState) (stands : Stands wor
       empty = λ p i there is low.
           let one = has_index p tvm.pool.pages there in
           subst (λ k. get_or words (G.pages + 512 * k + i) 0 ≡ 0) one.2 ((live.tables.spare.each one.0 one.1).zeros i low);
-      unlinked = λ a p link named. not_pooled p (λ there.
+      unlinked = λ a p slot named. not_pooled p (λ there.
           let one = has_index p tvm.pool.pages there in
-          (live.tables.spare.each one.0 one.1).unnamed a link (named ∙ ap next_table (sym one.2)));
-      unmapped = λ g p low on named. not_pooled p (λ there. no_data p (pool_table p there).1 (leaf_maps g p false low (omega arith) named).behind);
+          (live.tables.spare.each one.0 one.1).unnamed a slot (named ∙ ap next_table (sym one.2)));
+      unmapped = λ a p slot on named. not_pooled p (λ there. no_data p (pool_table p there).1 (slot_maps a p false slot (omega arith) named).2.behind);
       tables = λ p on is. from_table p (live.owned.found p Table on is);
-      memory = λ p on is. inr (live.owned.found p Data on is);
+      memory = λ p on is. let found = live.owned.found p Data on is in inr (At leaves found.0, found.1, found.2);
     } where
-      from_table : (p : ℕ) → Contains tvm.pool.pages p ⊎ ((a : Slot) × IsLinkSlot a × (entry_at G.pages root words a ≡ next_table p))
-          → (has p tvm.pool.pages ≡ true) ⊎ ((a : Slot) × IsLinkSlot a × (entry_at G.pages root words a ≡ next_table p))
+      from_table : (p : ℕ) → Contains tvm.pool.pages p ⊎ ((a : Slot) × IsSlot a × (entry_at G.pages root words a ≡ next_table p))
+          → (has p tvm.pool.pages ≡ true) ⊎ ((a : Slot) × IsSlot a × (entry_at G.pages root words a ≡ next_table p))
       from_table p (inl pooled) =
           let same : get_or tvm.pool.pages pooled.0 0 ≡ p = get_or_default tvm.pool.pages pooled.0 0 p pooled.1 ∙ pooled.2 in
           inl (subst (λ k. has k tvm.pool.pages ≡ true) same (index_has tvm.pool.pages pooled.0 pooled.1))
@@ -247,7 +278,7 @@ module _ (words : List ℕ) (G : Ground) (S : MonitorState) (stands : Stands wor
 
   pub begins_leaving : IsOrderly S → (t : ℕ) (tvm : Tvm) (model : ModelTvm) → 1 ≤ t → LiveStands G.pages G.harts words t S.seats G.files tvm model → find_tvm S t ≡ Some model
       → ((hart : ℕ) → hart < G.harts → is_inside G.pages G.harts words t hart ≡ false)
-      → IsBeingCleared G.pages G.harts words t tvm.tables.root.0 tvm.pool.pages
+      → IsBeingCleared G.pages G.harts words t tvm.tables.root.0 (leaves_of tvm.tables.mode) tvm.pool.pages
   begins_leaving orderly t tvm model low live found none = record {
     clearable = record {
       few = let limit = tvm.tables.limit in let board = live.board in omega arith;

@@ -3,6 +3,7 @@ use Rattle.std.proofs.Common.{◌≡◌, ℕ, ◌+◌, ◌/◌, ◌<◌, ◌≤�
 use Rattle.std.proofs.lemmas.Bool.{and_from, cases_lt, false≢true, le-leb, leb-false, lt-ltb, not-false}
 use Rattle.cove_base.proofs.StoreLemmas.{AllAllowed-split, AllAllowed-weaker, get_or-fills_other, length-stored, stored-append}
 use Rattle.cove_base.specs.Measurement.{board_number}
+use Rattle.cove_base.specs.Modes.{mode_of}
 use Rattle.cove_model.specs.Machine.{given, count_word, epoch_word, tvm_word, AllAllowed, fills, stored, Create, Info, ENTRY_LIMIT, TVM_LIMIT, Root, Reply, Success, AllFree, RoomForTvm, RootAligned, StateApart, WithinMemory, Rule, rule, AllowsLawful, IsLawful, every, is_free, Aligned, Check, FencesWithin}
 use Rattle.cove_base.specs.declared.numbers.Role.TheVariants.{State}
 use Rattle.cove_host.proofs.CheckedLemmas.{each_passes, none_fails, one_fails}
@@ -131,16 +132,16 @@ module _ (words : List ℕ) (G : Ground) (hart root state : ℕ) (ready : IsRead
       ∙ get_or-fills_other (stored words (fills (root / 4096) 4 (given t Root))) (state / 4096) 1 (given t State) at (inr (omega arith))
       ∙ get_or-fills_other words (root / 4096) 4 (given t Root) at (inr (omega arith))
 
-  accepted_by : (t : ℕ) (tvm : Tvm) → t ≡ length G.tvms.tvms + 1 → IsNewTvm G.tvms.pages (board_number G.pages G.harts G.filecount) (root / 4096) (state / 4096) tvm
+  accepted_by : (t : ℕ) (tvm : Tvm) → t ≡ length G.tvms.tvms + 1 → IsNewTvm G.tvms.pages (board_number G.pages G.harts G.filecount) (root / 4096) (mode_of root) (state / 4096) tvm
       → Called hart creation words (stored words (create_stores t root state)) G (record G { tvms = with_new G.tvms tvm }) (record { status = Success; value = t })
   accepted_by t tvm is fresh = record {
     serves = λ S met stands.
         let made = stands.board.made in
         let same : S.made + 1 ≡ t = omega arith in
         let none = none_fails (creation_checks S root state) (told S stands) in
-        let new_tvm : IsNewTvm G.pages (board_in S) (root / 4096) (state / 4096) tvm =
-        subst (λ n. IsNewTvm G.pages n (root / 4096) (state / 4096) tvm) (same_board words G S stands)
-        (subst (λ n. IsNewTvm n (board_number G.pages G.harts G.filecount) (root / 4096) (state / 4096) tvm) stands.board.tvm_pages fresh) in
+        let new_tvm : IsNewTvm G.pages (board_in S) (root / 4096) (mode_of root) (state / 4096) tvm =
+        subst (λ n. IsNewTvm G.pages n (root / 4096) (mode_of root) (state / 4096) tvm) (same_board words G S stands)
+        (subst (λ n. IsNewTvm n (board_number G.pages G.harts G.filecount) (root / 4096) (mode_of root) (state / 4096) tvm) stands.board.tvm_pages fresh) in
         let after =
         subst (λ n. Stands (stored words (create_stores n root state)) (record G { tvms = with_new G.tvms tvm }) (rule S hart (Create root state)).outcome.state) same
         (create_stands words G S hart root state tvm stands met.orderly met.seated fences (may S stands) new_tvm) in
@@ -154,7 +155,7 @@ module _ (words : List ℕ) (G : Ground) (hart root state : ℕ) (ready : IsRead
 
   -- an accepted creation, by what the code leaves
   pub creates : (t value : ℕ) (tvm : Tvm) (table : TvmTable) (new : List ℕ) → t ≡ length G.tvms.tvms + 1 → value ≡ t
-      → IsNewTvm G.tvms.pages (board_number G.pages G.harts G.filecount) (root / 4096) (state / 4096) tvm → table.tvms ≡ G.tvms.tvms ++ tvm ∷ [] → table.pages ≡ G.tvms.pages
+      → IsNewTvm G.tvms.pages (board_number G.pages G.harts G.filecount) (root / 4096) (mode_of root) (state / 4096) tvm → table.tvms ≡ G.tvms.tvms ++ tvm ∷ [] → table.pages ≡ G.tvms.pages
       → new ≡ stored (stored words (fills (root / 4096) 4 (given t Root))) (fills (state / 4096) 1 (given t State))
       → Called hart creation words new G (record G { tvms = table }) (record { status = Success; value = value })
   creates t value tvm table new is number fresh grown board stores =

@@ -3,6 +3,7 @@ use Rattle.std.proofs.Common.{◌≡◌, ℕ, zero, suc, ◌+◌, ◌-◌, ◌^�
 use Rattle.std.proofs.lemmas.Option.{none-some}
 use Rattle.std.specs.List.{range_with_len}
 use Rattle.cove_base.proofs.StoreLemmas.{AllAllowed-weaker}
+use Rattle.cove_base.specs.Modes.{leaves_of}
 use Rattle.cove_model.specs.Machine.{table_word, AllAllowed, stored, Destroy, Success, rule, AllowsLawful, IsLawful, MakesLawful, State, find_tvm}
 use Rattle.cove_stage2.proofs.LawfulLemmas.{leads_on}
 use Rattle.cove_clear.specs.Clearing.{Goes, IsBeingCleared, MayBeCleared, Proceeds}
@@ -37,18 +38,18 @@ module _ (allows : List ℕ → ℕ → ℕ → Type 0) (words : List ℕ) (tvm 
   abbrev root : ℕ
   root = tvm.tables.root.0
 
-  pub may_leave : MayBeCleared allows tvm.tables.pages tvm.tables.root.0 words tvm.pool.pages
+  pub may_leave : MayBeCleared allows tvm.tables.pages tvm.tables.root.0 (leaves_of tvm.tables.mode) words tvm.pool.pages
   may_leave = (may.0, may.1, may.2, may.3, may.4.leaving, may.5)
 
   pub room_is : tvm.pool.room ≡ tvm.tables.pages
   room_is = may.4.live.room
 
-  module _ (mid pool : List ℕ) (proceeds : Proceeds tvm.tables.pages tvm.tables.root.0 words tvm.pool.pages mid pool)
+  module _ (mid pool : List ℕ) (proceeds : Proceeds tvm.tables.pages tvm.tables.root.0 (leaves_of tvm.tables.mode) words tvm.pool.pages mid pool)
       (empty : (n : ℕ) → n < 2048 → get_or mid (table_word tvm.tables.pages tvm.tables.root.0 n) 0 ≡ 0) where
     abbrev all : List ℕ
     all = pool ++ (range_with_len tvm.tables.root.0 4 ++ (tvm.state.0 ∷ all_cpu_pages tvm))
 
-    goes : (harts t : ℕ) → IsEnding harts words t tvm → Goes pages harts t root words tvm.pool.pages mid pool
+    goes : (harts t : ℕ) → IsEnding harts words t tvm → Goes pages harts t root (leaves_of tvm.tables.mode) words tvm.pool.pages mid pool
     goes harts t e = proceeds harts t e.leaving
 
     pub ending_places : HavePlaces mid all
@@ -103,7 +104,7 @@ module _ (words : List ℕ) (G : Ground) (hart t : ℕ) (ready : IsReady words G
         files = G.files;
         model = one.model;
         live = subst (λ n. LiveStands n G.harts words t S.seats G.files tvm one.model) (sym one.stands.board) one.stands;
-        leaving = subst (λ n. IsBeingCleared n G.harts words t tvm.tables.root.0 tvm.pool.pages) (sym one.stands.board)
+        leaving = subst (λ n. IsBeingCleared n G.harts words t tvm.tables.root.0 (leaves_of tvm.tables.mode) tvm.pool.pages) (sym one.stands.board)
             (begins_leaving words G S stands met.sound few met.orderly t tvm one.model (live_made G.tvms t tvm live).0 one.stands one.found outside);
       }
 

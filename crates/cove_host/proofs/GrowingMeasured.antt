@@ -7,9 +7,10 @@ use Rattle.cove_base.specs.Measurement.{registers_of}
 use Rattle.cove_model.specs.Machine.{Measured, Success, AllFree, AllHost, IsBuilding, Live, WithinMemory, Rule, page_records, page_words_from, rule, Free, Host, Owner, every, is_free, is_host, page_at, words_of, Aligned, Check, Count, State}
 use Rattle.cove_host.proofs.CheckedLemmas.{each_passes}
 use Rattle.cove_host.proofs.GrowingRuns.{Grows, grows, run_called, run_mapped}
+use Rattle.cove_host.proofs.GuestTests.{few_guests}
 use Rattle.cove_host.proofs.PassedCalls.{AllPass, stands_written}
 use Rattle.cove_host.proofs.PassedChecks.{inside_passes}
-use Rattle.cove_host.specs.GuestRuns.{mapping_checks}
+use Rattle.cove_host.specs.GuestRuns.{EndsWithin, mapping_checks}
 use Rattle.cove_host.specs.FoundTvms.{ChangesTvm}
 use Rattle.cove_host.specs.MeasuredRuns.{MeasuresIn, frames_from}
 use Rattle.cove_model.proofs.Runs.{every_at}
@@ -42,27 +43,36 @@ no_both (Host words) host free = false≢true free
 no_both Free host free = false≢true host
 no_both o host free = absurd (false≢true host)
 
-module _ {words : List ℕ} {G : Ground} (ready : IsReady words G) (src dst n gpa : ℕ) (near : gpa / 4096 + n ≤ 2 ^ 29) (hart : ℕ) where
+module _ {words : List ℕ} {G : Ground} (ready : IsReady words G) (src dst n gpa hart : ℕ) where
   -- the rule of the call
   abbrev by_rule : (t : ℕ) → State → Rule
   by_rule t S = rule S hart (Measured t src dst n gpa)
 
-  pub measures : (t : ℕ) → AllPass (by_rule t) words G → (S : State) → Stands words G S → Measures words G S t src dst n gpa
-  measures t told S stands =
+  pub measures : (t : ℕ) → EndsWithin G t gpa n → AllPass (by_rule t) words G → (S : State) → Stands words G S → Measures words G S t src dst n gpa
+  measures t near told S stands =
       let pass = each_passes (measured_checks S t src dst n gpa) (told S stands) in
       let whole : gpa % 4096 ≡ 0 = eqb-true (gpa % 4096) 0 (not-false (gpa % 4096 == 0) (pass 5)) in
       record {
-        grown = grows ready dst n gpa near is_free t S stands (pass 0) (pass 7) (pass 9) (pass 11) (pass 12);
+        grown = grows ready dst n gpa is_free t near S stands (pass 0) (pass 7) (pass 9) (pass 11) (pass 12);
         inside = inside_passes src n stands (pass 6);
         hosts = not-false (every is_host (src / 4096) n S.pages) (pass 8);
         place = omega (arith, whole);
       }
 
+  -- addresses of the guest pages are numbers of 64 bits
+  pub ends_low : (t : ℕ) → EndsWithin G t gpa n → AllPass (by_rule t) words G → gpa / 4096 + n ≤ 2 ^ 38
+  ends_low zero near told = absurd (measures 0 near told ready.state ready.stands).grown
+  ends_low (suc k) near told =
+      let one = (measures (suc k) near told ready.state ready.stands).grown in
+      let ends = one.may.near in
+      let limit = few_guests one.old.tables.mode in
+      omega (arith, ends, limit)
+
   -- the pages that are read are none of those that are given
-  pub apart : (t : ℕ) → 1 ≤ n → AllPass (by_rule t) words G → (src / 4096 + n ≤ dst / 4096) ⊎ (dst / 4096 + n ≤ src / 4096)
-  apart zero some told = absurd (measures 0 told ready.state ready.stands).grown
-  apart (suc k) some told =
-      let one = measures (suc k) told ready.state ready.stands in
+  pub apart : (t : ℕ) → EndsWithin G t gpa n → 1 ≤ n → AllPass (by_rule t) words G → (src / 4096 + n ≤ dst / 4096) ⊎ (dst / 4096 + n ≤ src / 4096)
+  apart zero near some told = absurd (measures 0 near told ready.state ready.stands).grown
+  apart (suc k) near some told =
+      let one = measures (suc k) near told ready.state ready.stands in
       let may = one.grown.may in
       let long = ready.stands.words_stand.stands.owners.page_count in
       let inside = one.inside in
@@ -116,16 +126,16 @@ module _ {words : List ℕ} {G : Ground} (ready : IsReady words G) (src dst n gp
         (run_mapped may (prepares may) new done.1.left done.1.mapped) measured)
 
     -- an accepted call, by what the code leaves
-    pub adds_measured : (t : ℕ) → AllPass (by_rule t) words G
+    pub adds_measured : (t : ℕ) → EndsWithin G t gpa n → AllPass (by_rule t) words G
         → ChangesTvm t (MeasuresIn (gpa / 4096) (dst / 4096) n frames (with_memory words t dst n) new) (record G { memory = frames }) H
         → Called hart (by_rule t) words new G H (record { status = Success; value = 0 })
-    adds_measured zero told measures_of = absurd (measures 0 told ready.state ready.stands).grown
-    adds_measured (suc k) told measures_of =
-        let one = (measures (suc k) told ready.state ready.stands).grown in
+    adds_measured zero near told measures_of = absurd (measures 0 near told ready.state ready.stands).grown
+    adds_measured (suc k) near told measures_of =
+        let one = (measures (suc k) near told ready.state ready.stands).grown in
         let done = measures_of one.old one.may.live in
         run_called one.may (prepares one.may) hart (by_rule (suc k)) new H done.1.left told done.1.mapped
         (memory_stores (suc k) dst n, memory_is_lawful k words G ready.state hart dst n gpa one.old one.model one.may, refl)
         (λ S met stands.
-        let here = measures (suc k) told S stands in
+        let here = measures (suc k) near told S stands in
         measured_after k S here.grown.old here.grown.model here.grown.may here.inside here.hosts here.place measures_of)
         (λ S. refl)

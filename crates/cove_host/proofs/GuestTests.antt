@@ -1,8 +1,16 @@
 -- Tests of the guest pages of a run.
-use Rattle.std.proofs.Common.{◌≡◌, ◌↔◌, ℕ, zero, suc, ◌+◌, Bool, true, false, inl, inr, refl, subst, arith}
+use Rattle.std.proofs.Common.{◌≡◌, ◌↔◌, ℕ, zero, suc, ◌+◌, ◌^◌, ◌≤◌, Bool, true, false, inl, inr, refl, subst, arith}
 use Rattle.std.proofs.lemmas.Bool.{and_from, and_parts, cases_lt, or_from, or_parts}
 use Rattle.std.specs.List.{list_all, list_any, range_with_len}
+use Rattle.cove_base.specs.Modes.{guest_limit}
+use Rattle.cove_base.specs.declared.modes.Mode.{Mode}
+use Rattle.cove_base.specs.declared.modes.Mode.TheVariants.{Sv39x4, Sv48x4}
 use Rattle.cove_host.specs.GuestRuns.{EachGuest}
+
+-- guest addresses of either mode are numbers of 64 bits
+pub few_guests : (mode : Mode) → guest_limit mode ≤ 2 ^ 38
+few_guests Sv39x4 = omega arith
+few_guests Sv48x4 = omega arith
 
 -- what holds of the guest pages so far and of the next holds of one more
 pub each_more : (P : ℕ → Type 0) (first i : ℕ) → EachGuest P first i → P (first + i) → EachGuest P first (i + 1)

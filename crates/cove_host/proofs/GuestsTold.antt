@@ -1,9 +1,10 @@
 -- What the guest pages of the ground's TVMs tell of those of a state.
-use Rattle.std.proofs.Common.{◌≡◌, ◌↔◌, ◌∙◌, ℕ, ◌+◌, ◌-◌, ◌/◌, ◌^◌, ◌<◌, ◌≤◌, Bool, true, false, not, cond, List, Option, Some, None, is_some, length, Result, Ok, Err, refl, sym, ap, subst, arith}
+use Rattle.std.proofs.Common.{◌≡◌, ◌↔◌, ◌∙◌, ℕ, ◌+◌, ◌-◌, ◌/◌, ◌<◌, ◌≤◌, Bool, true, false, not, cond, List, Option, Some, None, is_some, length, Result, Ok, Err, refl, sym, ap, subst, arith}
 use Rattle.std.proofs.lemmas.Bool.{false≢true, lt-ltb}
 use Rattle.std.proofs.lemmas.Bool.Decides.{same_from_decides}
 use Rattle.std.specs.List.{list_all, list_any, range_with_len}
 use Rattle.std.specs.Prelude.{nat_lt}
+use Rattle.cove_base.specs.Modes.{guest_limit, leaves_of}
 use Rattle.cove_base.specs.Tables.{IsTree, leaf_at}
 use Rattle.cove_model.specs.Machine.{Reply, InvalidAddress, is_private, is_shared, missing_tables, mapping_of, Check, plain, State, tvm_at}
 use Rattle.cove_base.specs.declared.statuses.Status.TheVariants.{Failed}
@@ -67,14 +68,14 @@ module _ (pages harts : ℕ) (words : List ℕ) (t : ℕ) where
 -- ---- a live TVM
 
 -- its tables are a tree
-pub tree_of : {words : List ℕ} {tvm : Tvm} → IsSomeLiveTvm words tvm → IsTree tvm.tables.pages tvm.tables.root.0 words
+pub tree_of : {words : List ℕ} {tvm : Tvm} → IsSomeLiveTvm words tvm → IsTree tvm.tables.pages tvm.tables.root.0 (leaves_of tvm.tables.mode) words
 tree_of {words} {tvm} some =
     let stand = live_stand some.live in
-    subst (λ (count : ℕ). IsTree count tvm.tables.root.0 words) (sym stand.board) stand.tables.tree
+    subst (λ (count : ℕ). IsTree count tvm.tables.root.0 (leaves_of tvm.tables.mode) words) (sym stand.board) stand.tables.tree
 
 module _ {words : List ℕ} {S : State} {t : ℕ} {tvm : Tvm} (one : IsLiveTvm words S t tvm) where
   -- guest pages of a kind are near
-  pub kind_near : (kind : AreaKind) (first n : ℕ) → (kind ≡ Outside → ⊥) → 1 ≤ n → EachGuest (λ g. kind_of tvm.regions g ≡ kind) first n → first + n ≤ 2 ^ 29
+  pub kind_near : (kind : AreaKind) (first n : ℕ) → (kind ≡ Outside → ⊥) → 1 ≤ n → EachGuest (λ g. kind_of tvm.regions g ≡ kind) first n → first + n ≤ guest_limit tvm.tables.mode
   kind_near kind first n other some are =
       let last : ℕ = first + (n - 1) in
       let fields = (live_stand one).fields in
@@ -107,31 +108,31 @@ module _ {words : List ℕ} {S : State} {t : ℕ} {tvm : Tvm} (one : IsLiveTvm w
       ap (λ e. checked (plain (not e) InvalidAddress)) (sym (kind_told Private is_private private-agrees (gpa / 4096) n b tells))
 
   -- the check of mappings
-  pub unmapped_told : (first n : ℕ) (b : Bool) → first + n ≤ 2 ^ 29
-      → ((b ≡ true) ↔ EachGuest (λ g. leaf_at tvm.tables.pages tvm.tables.root.0 words g ≡ 0) first n)
+  pub unmapped_told : (first n : ℕ) (b : Bool) → first + n ≤ guest_limit tvm.tables.mode
+      → ((b ≡ true) ↔ EachGuest (λ g. leaf_at tvm.tables.pages tvm.tables.root.0 (leaves_of tvm.tables.mode) words g ≡ 0) first n)
       → list_any (λ g. is_some (mapping_of (tvm_at S t) g)) (range_with_len first n) ≡ not b
   unmapped_told first n b near tells = opposite (list_any (λ g. is_some (mapping_of (tvm_at S t) g)) (range_with_len first n)) b told tells
     where
-      same : (g : ℕ) → g < 2 ^ 29 → (is_some (mapping_of (tvm_at S t) g) ≡ false) ↔ (leaf_at tvm.tables.pages tvm.tables.root.0 words g ≡ 0)
+      same : (g : ℕ) → g < guest_limit tvm.tables.mode → (is_some (mapping_of (tvm_at S t) g) ≡ false) ↔ (leaf_at tvm.tables.pages tvm.tables.root.0 (leaves_of tvm.tables.mode) words g ≡ 0)
       same g low =
           let stand = live_stand one in
-          subst (λ (count : ℕ). (is_some (mapping_of (tvm_at S t) g) ≡ false) ↔ (leaf_at count tvm.tables.root.0 words g ≡ 0)) (sym stand.board)
-          (absent_told one.ground.pages one.ground.harts words t (leaf_at one.ground.pages tvm.tables.root.0 words g) (mapping_of (tvm_at S t) g) (stand.mappings.leaf g low))
+          subst (λ (count : ℕ). (is_some (mapping_of (tvm_at S t) g) ≡ false) ↔ (leaf_at count tvm.tables.root.0 (leaves_of tvm.tables.mode) words g ≡ 0)) (sym stand.board)
+          (absent_told one.ground.pages one.ground.harts words t (leaf_at one.ground.pages tvm.tables.root.0 (leaves_of tvm.tables.mode) words g) (mapping_of (tvm_at S t) g) (stand.mappings.leaf g low))
 
       told : (list_any (λ g. is_some (mapping_of (tvm_at S t) g)) (range_with_len first n) ≡ false)
-          ↔ EachGuest (λ g. leaf_at tvm.tables.pages tvm.tables.root.0 words g ≡ 0) first n
+          ↔ EachGuest (λ g. leaf_at tvm.tables.pages tvm.tables.root.0 (leaves_of tvm.tables.mode) words g ≡ 0) first n
       told = (
         λ e g low high. (same g (omega arith)).0 ((none_passes (λ k. is_some (mapping_of (tvm_at S t) k)) first n).0 e g low high),
         λ each. (none_passes (λ k. is_some (mapping_of (tvm_at S t) k)) first n).1 (λ g low high. (same g (omega arith)).1 (each g low high)),
       )
 
   -- as many table pages are missing as the tables lack beside those of the pool
-  pub missing_told : (gpa n : ℕ) → gpa / 4096 + n ≤ 2 ^ 29
-      → missing_tables (tvm_at S t) gpa n ≡ tables_lacked tvm.tables.pages tvm.tables.root.0 words (gpa / 4096) n - length tvm.pool.pages
+  pub missing_told : (gpa n : ℕ) → gpa / 4096 + n ≤ guest_limit tvm.tables.mode
+      → missing_tables (tvm_at S t) gpa n ≡ tables_lacked tvm.tables.pages tvm.tables.root.0 words (leaves_of tvm.tables.mode) (gpa / 4096) n - length tvm.pool.pages
   missing_told gpa n near =
       let stand = live_stand one in
-      subst (λ (count : ℕ). missing_tables (tvm_at S t) gpa n ≡ tables_lacked count tvm.tables.root.0 words (gpa / 4096) n - length tvm.pool.pages) (sym stand.board)
-      (missing_agree one.ground.pages one.ground.harts t tvm.tables.root.0 gpa n words tvm.pool.pages (tvm_at S t) stand.mappings near)
+      subst (λ (count : ℕ). missing_tables (tvm_at S t) gpa n ≡ tables_lacked count tvm.tables.root.0 words (leaves_of tvm.tables.mode) (gpa / 4096) n - length tvm.pool.pages) (sym stand.board)
+      (missing_agree one.ground.pages one.ground.harts t tvm.tables.root.0 (leaves_of tvm.tables.mode) gpa n words tvm.pool.pages (tvm_at S t) (ap leaves_of stand.mode) stand.mappings near)
 
 -- the answer where some are missing, and where none is
 pub some_missing : (missing value : ℕ) → 0 < missing → value ≡ missing → Err (record { status = Failed; value = value }) ≡ checked (lacking missing)

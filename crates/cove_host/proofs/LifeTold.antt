@@ -139,3 +139,7 @@ module _ {words : List ℕ} {S : State} {t : ℕ} {tvm : Tvm} (one : IsLiveTvm w
 pub changed : (t : ℕ) (G : Ground) (how : Tvm → Tvm → Type 0) (tvm new : Tvm) → Some tvm ≡ live_at G.tvms t → how tvm new
     → ChangesTvm t how G (record G { tvms = with_tvm G.tvms (t - 1) new })
 changed t G how tvm new live did = λ old is. (new, subst (λ one. how one new) (same_Some tvm old (live ∙ is)) did, refl)
+
+-- what is known of the live TVM with a number, whichever it is
+pub of_live : (P : Tvm → Type 0) (G : Ground) (t : ℕ) (tvm : Tvm) → live_at G.tvms t ≡ Some tvm → P tvm → (x : Tvm) → live_at G.tvms t ≡ Some x → P x
+of_live P G t tvm live known x is = subst P (same_Some tvm x (sym live ∙ is)) known

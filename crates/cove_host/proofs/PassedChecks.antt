@@ -1,5 +1,5 @@
 -- What a check tells where it passes.
-use Rattle.std.proofs.Common.{◌≡◌, ◌+◌, ◌/◌, ◌≤◌, ℕ, suc, Bool, true, false, List, Result, Some, length, refl, subst, sym}
+use Rattle.std.proofs.Common.{◌≡◌, ◌+◌, ◌/◌, ◌≤◌, ℕ, suc, Bool, true, false, List, Result, Ok, Err, Some, length, refl, subst, sym}
 use Rattle.std.proofs.lemmas.Bool.{ltb-false, not-false}
 use Rattle.std.specs.Prelude.{OnOk}
 use Rattle.cove_model.specs.Machine.{Reply, Status, AllFree, Live, WithinMemory, every, is_free, plain, State, find_tvm}
@@ -18,6 +18,11 @@ passing false status P tells = tells refl
 
 pub on_pass : (fails : Bool) (status : Status) (P : Type 0) (r : Result (Unit {0}) Reply) → r ≡ checked (plain fails status) → (fails ≡ false → P) → OnOk r P
 on_pass fails status P r is tells = subst (λ (answer : Result (Unit {0}) Reply). OnOk answer P) (sym is) (passing fails status P tells)
+
+-- what is known anyway
+pub on_any : {P : Type 0} (r : Result (Unit {0}) Reply) → P → OnOk r P
+on_any (Ok u) known = known
+on_any (Err reply) known = tt
 
 -- the pages of a run within the memory are on the board
 pub inside_passes : {words : List ℕ} {G : Ground} {S : State} (base n : ℕ) → Stands words G S → (WithinMemory S base n).fails ≡ false → base / 4096 + n ≤ G.pages

@@ -1,13 +1,13 @@
 -- Counts of shared mappings that are raised, one after another.
 use Rattle.std.proofs.Common.{◌≡◌, ◌∙◌, ℕ, ◌+◌, ◌^◌, ◌<◌, ◌≤◌, List, [], ◌∷◌, get_or, length, length-set, set, refl, sym, ap, subst, inl, inr, arith, get_or-set_other, get_or-set_same}
 use Rattle.std.proofs.lemmas.Bool.{cases_eq}
-use Rattle.cove_model.specs.Machine.{host, Counts, IsLawful}
+use Rattle.cove_model.specs.Machine.{host, ChangesPage, Counts, IsLawful}
 use Rattle.cove_host.specs.Raised.{AreHosts, RaisesBy}
 use Rattle.cove_stage2.proofs.LawfulLemmas.{leads_on}
 
 raise_lawful : (pages harts hart : ℕ) (start now : List ℕ) (place maps : ℕ) → place < pages → get_or now place 0 ≡ host maps
     → IsLawful pages harts hart start now place (get_or now place 0 + 8)
-raise_lawful pages harts hart start now place maps on is = Counts place maps (maps + 1) on refl is (omega (arith, is)) (λ none. absurd (omega (arith, none)))
+raise_lawful pages harts hart start now place maps on is = ChangesPage place on refl (Counts maps (maps + 1) is (omega (arith, is)) (λ none. absurd (omega (arith, none))))
 
 module _ (first i : ℕ) (old now : List ℕ) (done : RaisesBy first i old now) where
   word_same : get_or now (first + i) 0 ≡ get_or old (first + i) 0

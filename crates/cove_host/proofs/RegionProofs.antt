@@ -1,5 +1,5 @@
 -- The checks and the outcome of a call that adds a region.
-use Rattle.std.proofs.Common.{◌≡◌, ◌↔◌, ◌+◌, ◌/◌, ◌%◌, ◌^◌, ◌<◌, ◌≤◌, ◌∙◌, ℕ, zero, suc, false, List, [], ◌∷◌, ◌++◌, length, Some, Result, Ok, Err, refl, sym, ap, subst, inl, inr, arith, nat_le, leb-false}
+use Rattle.std.proofs.Common.{◌≡◌, ◌↔◌, ◌+◌, ◌/◌, ◌*◌, ◌%◌, ◌<◌, ◌≤◌, ◌∙◌, ℕ, zero, suc, false, List, [], ◌∷◌, ◌++◌, length, Some, Result, Ok, Err, refl, sym, ap, subst, inl, inr, arith, nat_le, leb-false}
 use Rattle.std.proofs.lemmas.Bool.{or_cases}
 use Rattle.std.proofs.lemmas.Bool.Decides.{nat_tests}
 use Rattle.std.proofs.lemmas.List.{length-map}
@@ -7,7 +7,8 @@ use Rattle.std.proofs.lemmas.List.Folds.{list_any-append}
 use Rattle.std.proofs.lemmas.Option.{none-some}
 use Rattle.std.specs.List.{list_any}
 use Rattle.std.specs.Prelude.{IsTrue, OnOk, unwrap_or}
-use Rattle.cove_model.specs.Machine.{Region, REGION_LIMIT, Success, IsArea, IsBuilding, Live, NoOverlap, RoomForRegion, meets_run, Rule, rule, Aligned, Check, State, find_tvm, tvm_at}
+use Rattle.cove_base.specs.Modes.{guest_limit}
+use Rattle.cove_model.specs.Machine.{Region, REGION_LIMIT, Success, guests_in, IsArea, IsBuilding, Live, NoOverlap, RoomForRegion, meets_run, Rule, rule, Aligned, Check, State, find_tvm, tvm_at}
 use Rattle.cove_host.proofs.PassedCalls.{AllPass, passed_call, stands_written}
 use Rattle.cove_host.proofs.CheckedLemmas.{each_passes}
 use Rattle.cove_host.proofs.LifeTold.{both_live, live_stand}
@@ -56,14 +57,14 @@ region_added (Err Full) first n old new overlap full only regions kinds all room
 -- ---- the checks
 
 abbrev pub region_checks : State → (t gpa len : ℕ) → List Check
-region_checks S t gpa len = Live S t ∷ IsBuilding S t ∷ Aligned gpa ∷ Aligned len ∷ IsArea gpa len ∷ NoOverlap S t gpa len ∷ RoomForRegion S t ∷ []
+region_checks S t gpa len = Live S t ∷ IsBuilding S t ∷ Aligned gpa ∷ Aligned len ∷ IsArea S t gpa len ∷ NoOverlap S t gpa len ∷ RoomForRegion S t ∷ []
 
 -- an address that is aligned
 pub whole : (address : ℕ) → (Aligned address).fails ≡ false → address % 4096 ≡ 0
 whole address passed = grind (arith, nat_tests)
 
-pub area_is : (gpa len : ℕ) → (IsArea gpa len).fails ≡ false → (0 < len) × (gpa + len ≤ 2 ^ 41)
-area_is gpa len passed = grind (arith, nat_tests)
+pub area_is : (S : State) (t gpa len : ℕ) → (IsArea S t gpa len).fails ≡ false → (0 < len) × (gpa + len ≤ 4096 * guests_in S t)
+area_is S t gpa len passed = grind (arith, nat_tests)
 
 -- what is known of a call that all checks let pass
 record Passed (words : List ℕ) (G : Ground) (S : State) (t gpa len : ℕ) : Type 0 where
@@ -74,7 +75,7 @@ record Passed (words : List ℕ) (G : Ground) (S : State) (t gpa len : ℕ) : Ty
   begins : gpa % 4096 ≡ 0
   lasts : len % 4096 ≡ 0
   some : 0 < len
-  within : gpa + len ≤ 2 ^ 41
+  within : gpa + len ≤ 4096 * guest_limit old.tables.mode
   apart : list_any (meets_run (gpa / 4096) (len / 4096)) model.regions ≡ false
   room : length model.regions < REGION_LIMIT
 
@@ -83,7 +84,7 @@ passed : (words : List ℕ) (G : Ground) (S : State) (t gpa len : ℕ) → Stand
 passed words G S t gpa len stands e =
     let pass = each_passes (region_checks S t gpa len) e in
     let both = both_live words G S t (live_at G.tvms t) (find_tvm S t) (stands.tvm t) (pass 0) in
-    let area = area_is gpa len (pass 4) in
+    let area = area_is S t gpa len (pass 4) in
     record {
       old = both.0;
       model = both.1;
@@ -92,7 +93,7 @@ passed words G S t gpa len stands e =
       begins = whole gpa (pass 2);
       lasts = whole len (pass 3);
       some = area.0;
-      within = area.1;
+      within = subst (λ k. gpa + len ≤ 4096 * k) (ap (λ v. guest_limit (unwrap_or v (new_tvm t)).mode) both.3 ∙ ap guest_limit (sym (live_stands words G S t both.0 both.1 stands both.2 both.3).mode)) area.1;
       apart = ap (λ v. list_any (meets_run (gpa / 4096) (len / 4096)) (unwrap_or v (new_tvm t)).regions) (sym both.3) ∙ pass 5;
       room =
           leb-false REGION_LIMIT (length both.1.regions)
@@ -108,9 +109,9 @@ module _ (words : List ℕ) (G H : Ground) (hart gpa len : ℕ) where
   Adds t = ChangesTvm t (AddsRegion (gpa / 4096) (len / 4096)) G H
 
   -- the guest pages of the regions stay within the tables
-  near : (old new : GuestMap) → gpa + len ≤ 2 ^ 41 → gpa % 4096 ≡ 0 → len % 4096 ≡ 0 → new.regions ≡ old.regions ++ pages_from (gpa / 4096) (len / 4096) ∷ []
-      → ((g : ℕ) → IsTrue (covers old.regions g) → g < 2 ^ 29) → (g : ℕ) → IsTrue (covers new.regions g) → g < 2 ^ 29
-  near old new within begins lasts grown before g there =
+  near : (limit : ℕ) (old new : GuestMap) → gpa + len ≤ 4096 * limit → gpa % 4096 ≡ 0 → len % 4096 ≡ 0 → new.regions ≡ old.regions ++ pages_from (gpa / 4096) (len / 4096) ∷ []
+      → ((g : ℕ) → IsTrue (covers old.regions g) → g < limit) → (g : ℕ) → IsTrue (covers new.regions g) → g < limit
+  near limit old new within begins lasts grown before g there =
       elim (or_cases (covers old.regions g) (covers (pages_from (gpa / 4096) (len / 4096) ∷ []) g)
       (sym (ap (λ areas. covers areas g) grown ∙ list_any-append (has_guest g) old.regions (pages_from (gpa / 4096) (len / 4096) ∷ [])) ∙ there)) [
         | inl was ↦ before g was
@@ -136,7 +137,7 @@ module _ (words : List ℕ) (G H : Ground) (hart gpa len : ℕ) where
       stands_written G G.memory k done.2 done.1.rest
       (region_stands k words G S hart gpa len one.old one.model new.regions stands one.live one.found
       (added-stand one.old.regions new.regions one.model (with_region gpa len one.model) regions (gpa / 4096) (len / 4096) some one.apart has.kinds has.regions refl refl)
-      (near one.old.regions new.regions one.within one.begins one.lasts has.regions was.fields.near))
+      (near (guest_limit one.old.tables.mode) one.old.regions new.regions one.within one.begins one.lasts has.regions was.fields.near))
 
   -- an accepted call, by what the code leaves
   pub adds_region : (t : ℕ) → AllPass (by_rule t) words G → Adds t

@@ -1,14 +1,14 @@
 -- What is left after the pages of a TVM were taken back.
-use Rattle.std.proofs.Common.{◌≡◌, ◌≢◌, ℕ, zero, suc, ◌+◌, ◌-◌, ◌*◌, ◌/◌, ◌%◌, ◌^◌, ◌<◌, ◌≤◌, ◌⊎◌, ◌∙◌, true, false, true≢false, eqb, eqb-true, eq-eqb, List, [], ◌∷◌, ◌++◌, get_or, length, length-set, set, Option, Some, None, refl, sym, ap, subst, inl, inr, arith, get_or-set_other, get_or-set_same}
+use Rattle.std.proofs.Common.{◌≡◌, ◌≢◌, ℕ, zero, suc, ◌+◌, ◌-◌, ◌*◌, ◌^◌, ◌<◌, ◌≤◌, ◌⊎◌, ◌∙◌, true, false, true≢false, eqb, eqb-true, eq-eqb, List, [], ◌∷◌, ◌++◌, get_or, length, length-set, set, Option, Some, None, refl, sym, ap, subst, inl, inr, arith, get_or-set_other, get_or-set_same}
 use Rattle.std.proofs.lemmas.Bool.{cases_Bool, cases_eq, or_cases, or_left, or_right}
 use Rattle.std.proofs.lemmas.List.{map-append}
 use Rattle.std.proofs.lemmas.List.Folds.{list_any_at}
 use Rattle.std.proofs.lemmas.Option.{none-some, same_Some}
 use Rattle.std.specs.List.{range_with_len}
 use Rattle.cove_base.proofs.StoreLemmas.{AllAllowed-split, length-stored, stored-append}
-use Rattle.cove_base.proofs.TableLemmas.{below-absent}
-use Rattle.cove_model.specs.Machine.{given, host, released, hart_word, page_word, table_word, AllAllowed, stored, Role, Root, Table, Vcpu, Data, Frees, IsLawful, IsLeft, IsTableOf, TakesBack, has, Seat, find_cpu}
-use Rattle.cove_base.specs.Tables.{Slot, InRoot, InMiddle, InLast, IsLinkSlot, below, entry_at, leaf_at, next_table}
+use Rattle.cove_base.specs.Modes.{leaves_of}
+use Rattle.cove_model.specs.Machine.{given, host, released, hart_word, page_word, table_word, AllAllowed, stored, Role, Root, Table, Vcpu, Data, ChangesPage, Frees, IsLawful, IsLeft, IsTableOf, TakesBack, has, Seat, find_cpu}
+use Rattle.cove_base.specs.Tables.{Slot, IsSlot, Names, entry_at, next_table}
 use Rattle.cove_base.specs.declared.numbers.Role.TheVariants.{State}
 use Rattle.cove_clear.specs.Clearing.{Clears, IsBeingCleared}
 use Rattle.cove_host.specs.Released.{all_cpu_pages, cpu_pages, release_stores}
@@ -18,6 +18,7 @@ use Rattle.cove_model.proofs.Members.{has_append, has_range, range_has}
 use Rattle.cove_model.specs.TableLaw.{shared_leaves, is_shared_leaf}
 use Rattle.cove_model.specs.Tvms.{Cpu, Tvm as ModelTvm}
 use Rattle.cove_imsic.specs.FileTables.{FileTable}
+use Rattle.cove_stage2.proofs.ZeroLemmas.{empty-entries}
 use Rattle.cove_tvm.proofs.KeptGround.{window_same}
 use Rattle.cove_tvm.specs.DestroyedTvms.{Destroys}
 use Rattle.cove_tvm.specs.Slots.{slot_at}
@@ -84,8 +85,8 @@ release_lawful pages harts hart t last (q ∷ ps) words long left each = (
     here = each q (or_left (eqb q q) (has q ps) (eq-eqb q q refl))
 
     first : IsOut words t q → IsLawful pages harts hart last words q 3
-    first (inl one) = TakesBack q t one.0 here.0 refl one.1 refl left
-    first (inr out) = Frees q here.0 refl (inl out) (inr refl)
+    first (inl one) = ChangesPage q here.0 refl (TakesBack t one.0 one.1 refl left)
+    first (inr out) = ChangesPage q here.0 refl (Frees (inl out) (inr refl))
 
     still : (p : ℕ) → p < pages → IsOut words t p → IsOut (set words q 3) t p
     still p on out = elim (cases_eq p q) [
@@ -99,7 +100,7 @@ release_lawful pages harts hart t last (q ∷ ps) words long left each = (
 -- ---- a TVM whose tables are clear
 
 module _ (pages harts : ℕ) (words mid : List ℕ) (t : ℕ) (seats : ℕ → Option Seat) (files : FileTable) (tvm : Tvm) (model : ModelTvm) (pool : List ℕ)
-    (live : LiveStands pages harts words t seats files tvm model) (leaving : IsBeingCleared pages harts mid t tvm.tables.root.0 pool) (clears : Clears pages words mid t)
+    (live : LiveStands pages harts words t seats files tvm model) (leaving : IsBeingCleared pages harts mid t tvm.tables.root.0 (leaves_of tvm.tables.mode) pool) (clears : Clears pages words mid t)
     (empty : (n : ℕ) → n < 2048 → get_or mid (table_word pages tvm.tables.root.0 n) 0 ≡ 0) where
   abbrev root : ℕ
   root = tvm.tables.root.0
@@ -118,16 +119,14 @@ module _ (pages harts : ℕ) (words mid : List ℕ) (t : ℕ) (seats : ℕ → O
 
   -- ---- no entry is left
 
-  middle_none : (n : ℕ) → n < 2 ^ 20 → entry_at pages root mid (InMiddle n) ≡ 0
-  middle_none n low = ap (λ k. below pages mid k (n % 512)) (empty (n / 512) (omega arith)) ∙ below-absent pages mid (n % 512)
+  no_entry : (a : Slot) → IsSlot a → entry_at pages root mid a ≡ 0
+  no_entry = empty-entries pages root mid empty
 
-  no_link : (a : Slot) (q : ℕ) → IsLinkSlot a → entry_at pages root mid a ≡ next_table q → ⊥
-  no_link (InRoot n) q low named = let e = sym (empty n low) ∙ named in absurd (omega arith)
-  no_link (InMiddle n) q low named = let e = sym (middle_none n low) ∙ named in absurd (omega arith)
-  no_link (InLast g) q low named = low
+  no_link : (a : Slot) (q : ℕ) → IsSlot a → entry_at pages root mid a ≡ next_table q → ⊥
+  no_link a q slot named = let e = sym (no_entry a slot) ∙ named in absurd (omega arith)
 
-  leaf_none : (g : ℕ) → g < 2 ^ 29 → leaf_at pages root mid g ≡ 0
-  leaf_none g low = ap (λ k. below pages mid k (g % 512)) (middle_none (g / 512) (omega arith)) ∙ below-absent pages mid (g % 512)
+  no_name : (a : Slot) (p : ℕ) → IsSlot a → Names p false (entry_at pages root mid a) → ⊥
+  no_name a p slot named = none_named p false (entry_at pages root mid a) (no_entry a slot) named
 
   -- ---- the TVM's pages
 
@@ -167,7 +166,7 @@ module _ (pages harts : ℕ) (words mid : List ℕ) (t : ℕ) (seats : ℕ → O
       (or_right (eqb tvm.state.0 p) (has p (all_cpu_pages tvm)) (cpus_have p found.0 found.1 found.2 found.3)))
   own_in p Data on is = elim (leaving.gathered.memory p on (given_mid p Data on is)) [
     | inl there ↦ has_left p pool rest there
-    | inr mapped ↦ absurd (none_named p false (leaf_at pages root mid mapped.0) (leaf_none mapped.0 mapped.1) mapped.2)
+    | inr mapped ↦ absurd (no_name mapped.0 p mapped.1 mapped.2)
   ]
 
   abbrev IsOwn : ℕ → Type 0

@@ -1,5 +1,6 @@
 -- What the end of a TVM needs of words and of the TVM, and what it leaves.
 use Rattle.std.specs.Prelude.{◌≡◌, ℕ, true, List, Option}
+use Rattle.cove_base.specs.Modes.{leaves_of}
 use Rattle.cove_clear.specs.Clearing.{IsBeingCleared}
 use Rattle.cove_imsic.specs.FileTables.{FileTable}
 use Rattle.cove_model.specs.LawfulStores.{AllowsLawful, MakesLawful}
@@ -16,7 +17,7 @@ pub record IsEnding (harts : ℕ) (words : List ℕ) (t : ℕ) (tvm : Tvm) : Typ
   pub files : FileTable
   pub model : ModelTvm
   pub live : LiveStands tvm.tables.pages harts words t seats files tvm model
-  pub leaving : IsBeingCleared tvm.tables.pages harts words t tvm.tables.root.0 tvm.pool.pages
+  pub leaving : IsBeingCleared tvm.tables.pages harts words t tvm.tables.root.0 (leaves_of tvm.tables.mode) tvm.pool.pages
 
 -- and the words allow every store that is lawful for a hart
 abbrev pub MayEnd : (allows : List ℕ → ℕ → ℕ → Type 0) (words : List ℕ) → Tvm → Type 0

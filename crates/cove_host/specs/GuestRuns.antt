@@ -1,5 +1,6 @@
 -- A run of guest pages of a live TVM, and the checks of it.
-use Rattle.std.specs.Prelude.{ℕ, ◌+◌, ◌/◌, ◌<◌, ◌≤◌, Bool, true, false, not, if◌then◌else◌, List, [], ◌∷◌}
+use Rattle.std.specs.Prelude.{ℕ, ◌+◌, ◌/◌, ◌≡◌, ◌<◌, ◌≤◌, Bool, true, false, not, if◌then◌else◌, List, [], ◌∷◌, Some}
+use Rattle.cove_base.specs.Modes.{guest_limit}
 use Rattle.cove_base.specs.declared.statuses.Status.TheVariants.{InvalidAddress}
 use Rattle.cove_model.specs.Checks.{AllPrivate, AllShared, EnoughTables, IsRunnable, Live, Unmapped, WithinMemory}
 use Rattle.cove_model.specs.Owners.{Owner, every, is_free, is_host}
@@ -7,10 +8,17 @@ use Rattle.cove_model.specs.Refusals.{Aligned, Check, Count, plain}
 use Rattle.cove_model.specs.States.{State}
 use Rattle.cove_region.specs.declared.kinds.AreaKind.{AreaKind}
 use Rattle.cove_region.specs.declared.kinds.AreaKind.TheVariants.{Private, Shared}
+use Rattle.cove_tvm.specs.TvmTables.{live_at}
+use Rattle.cove_tvm.specs.declared.ground.Ground.{Ground}
+use Rattle.cove_tvm.specs.declared.machines.Tvm.{Tvm}
 
 -- a fact of each of the n guest pages from one on
 abbrev pub EachGuest : (P : ℕ → Type 0) (first n : ℕ) → Type 0
 EachGuest P first n = (g : ℕ) → first ≤ g → g < first + n → P g
+
+-- the n guest pages from a byte address on end within the tables of the live TVM with a number
+abbrev pub EndsWithin : Ground → (t gpa n : ℕ) → Type 0
+EndsWithin G t gpa n = (tvm : Tvm) → live_at G.tvms t ≡ Some tvm → gpa / 4096 + n ≤ guest_limit tvm.tables.mode
 
 -- the kind of guest pages that are mapped shared, or as private ones
 abbrev pub kind_as : (shared : Bool) → AreaKind

@@ -2,6 +2,7 @@
 use Rattle.std.specs.Prelude.{◌≡◌, ℕ, ◌*◌, ◌++◌, false, List, [], map, slice_index_or}
 use Rattle.std.specs.List.{range_with_len}
 use Rattle.cove_base.specs.Measurement.{Extension, Record, registers_of}
+use Rattle.cove_base.specs.Modes.{leaves_of}
 use Rattle.cove_host.specs.Mapped.{MapsRun}
 use Rattle.cove_model.specs.HostCalls.{page_records}
 use Rattle.cove_stage2.specs.MapStores.{Pages}
@@ -24,5 +25,5 @@ pub record MeasuresIn (g p n : ℕ) (frames : List (List ℕ)) (words new : List
   pub measured : List (List ℕ)
   pub rest : now ≡ record old { pool = left; registers = measured }
   pub room : left.room ≡ old.pool.room
-  pub mapped : MapsRun old.tables.pages old.tables.root.0 g p n n false words old.pool.pages new left.pages
+  pub mapped : MapsRun old.tables.pages old.tables.root.0 (leaves_of old.tables.mode) g p n n false words old.pool.pages new left.pages
   pub extended : ExtendsBy g p n frames old.registers measured

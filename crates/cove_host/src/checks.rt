@@ -30,11 +30,11 @@ pub(crate) fn room_for_tvm(g: &Ground) -> Result<(), Reply>
     check(g.tvms.made() >= TVM_LIMIT, Status::Failed)
 }
 
-/// The root begins at a multiple of its size.
+/// The root begins at a multiple of its size, or one past it, which asks for tables of four levels.
 pub(crate) fn root_aligned(root: u64) -> Result<(), Reply>
     ensures { result ≡ checked (RootAligned root) }
 {
-    check(root % 16384 != 0, Status::InvalidAddress)
+    check(root % 16384 > 1, Status::InvalidAddress)
 }
 
 /// The address is a multiple of the page size.

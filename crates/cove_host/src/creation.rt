@@ -13,11 +13,12 @@ ghost use Rattle.cove_tvm.specs.Stands.{Stands};
 
 use crate::checks::{aligned, free, inside, room_for_tvm, root_aligned, state_apart};
 use crate::pages::{give, page_of};
-use cove_base::{HartId, Reply, Role, Status, Words};
+use cove_base::{HartId, Reply, Role, Status, Words, mode_of};
 use cove_tvm::Ground;
 
-/// Creates a TVM, with the four pages from the byte address `root` on as the root of its tables, and the page at the byte
-/// address `state` as its state page, and measures the board. Answers its number.
+/// Creates a TVM, with the four pages from the byte address `root` on, less its remainder, as the root of its tables, which are
+/// Sv39x4 for the remainder 0 and Sv48x4 for 1, and the page at the byte address `state` as its state page; and measures the board.
+/// Answers its number.
 pub fn create_tvm<W: Words>(w: &mut W, g: &mut Ground, h: HartId, root: u64, state: u64) -> Reply
     requires ready { IsReady (W.words w.old) g.old }
     requires on_board { h.0 < g.old.harts }
@@ -29,7 +30,9 @@ pub fn create_tvm<W: Words>(w: &mut W, g: &mut Ground, h: HartId, root: u64, sta
         Err(reply) => reply,
         Ok(()) => {
             let board = board_number(g.pages, g.harts, g.filecount);
-            let t = g.tvms.create(page_of(root), page_of(state), board);
+            let t = g
+                .tvms
+                .create(page_of(root), mode_of(root), page_of(state), board);
             give(w, root, 4, t, Role::Root);
             give(w, state, 1, t, Role::State);
             Reply {

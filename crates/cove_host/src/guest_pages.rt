@@ -1,6 +1,7 @@
 //! The checks of runs of guest pages of a live TVM, each once for every call that has it.
 
 ghost use Rattle.std.specs.Prelude.{◌≡◌, ◌↔◌, ◌+◌, ◌-◌, ◌/◌, ◌^◌, ◌<◌, ◌≤◌, ℕ, List, OnOk, IsTrue, Some, length};
+ghost use Rattle.cove_base.specs.Modes.{guest_limit, leaves_of};
 ghost use Rattle.cove_base.specs.Tables.{IsTree, leaf_at};
 ghost use Rattle.cove_base.specs.Unchanged.{Unchanged};
 ghost use Rattle.cove_base.specs.declared.limits.TheConstants.{RANGE_LIMIT};
@@ -28,7 +29,7 @@ pub(crate) fn kinds_fit(tvm: &Tvm, gpa: u64, n: u64, shared: bool) -> Result<(),
     ensures told { (words : List ℕ) (S : State) (t : ℕ) → IsLiveTvm words S t tvm.now
         → result ≡ checked (KindsFit shared S t gpa n) }
     ensures near { (words : List ℕ) (S : State) (t : ℕ) → IsLiveTvm words S t tvm.now
-        → OnOk result (gpa / 4096 + n ≤ 2 ^ 29) }
+        → OnOk result (gpa / 4096 + n ≤ guest_limit tvm.now.tables.mode) }
 {
     check(
         !are_of_kind(&tvm.regions, mapped_kind(shared), gpa / 4096, n),
@@ -39,7 +40,7 @@ pub(crate) fn kinds_fit(tvm: &Tvm, gpa: u64, n: u64, shared: bool) -> Result<(),
 /// No guest page has a mapping.
 pub(crate) fn unmapped<W: Words>(w: &mut W, tvm: &Tvm, gpa: u64, n: u64) -> Result<(), Reply>
     requires live { IsSomeLiveTvm (W.words w.old) tvm.now }
-    requires near { gpa / 4096 + n ≤ 2 ^ 29 }
+    requires near { gpa / 4096 + n ≤ guest_limit tvm.now.tables.mode }
     ensures told { (S : State) (t : ℕ) → IsLiveTvm (W.words w.old) S t tvm.now
         → result ≡ checked (Unmapped S t gpa n) }
     ensures unchanged { Unchanged W.words W.clean W.guard w.old w.new }
@@ -52,8 +53,9 @@ pub(crate) fn unmapped<W: Words>(w: &mut W, tvm: &Tvm, gpa: u64, n: u64) -> Resu
 
 /// The pool has the table pages that mappings of the guest pages need; the value is how many are missing.
 pub(crate) fn enough_tables<W: Words>(w: &mut W, tvm: &Tvm, gpa: u64, n: u64) -> Result<(), Reply>
+    requires within { n ≤ RANGE_LIMIT }
     requires live { IsSomeLiveTvm (W.words w.old) tvm.now }
-    requires near { gpa / 4096 + n ≤ 2 ^ 29 }
+    requires near { gpa / 4096 + n ≤ guest_limit tvm.now.tables.mode }
     ensures told { (S : State) (t : ℕ) → IsLiveTvm (W.words w.old) S t tvm.now
         → result ≡ checked (EnoughTables S t gpa n) }
     ensures unchanged { Unchanged W.words W.clean W.guard w.old w.new }
@@ -94,9 +96,9 @@ fn are_of_kind(regions: &Regions, kind: AreaKind, first: u64, n: u64) -> bool
 
 // Whether no guest page of a run has a leaf in some tables.
 fn are_absent<W: Words>(w: &mut W, tables: Tables, first: u64, n: u64) -> bool
-    requires near { first + n ≤ 2 ^ 29 }
-    requires tree { IsTree tables.pages tables.root.0 (W.words w.old) }
-    ensures none { IsTrue result ↔ EachGuest (λ g. leaf_at tables.pages tables.root.0 (W.words w.old) g ≡ 0) first n }
+    requires near { first + n ≤ guest_limit tables.mode }
+    requires tree { IsTree tables.pages tables.root.0 (leaves_of tables.mode) (W.words w.old) }
+    ensures none { IsTrue result ↔ EachGuest (λ g. leaf_at tables.pages tables.root.0 (leaves_of tables.mode) (W.words w.old) g ≡ 0) first n }
     ensures unchanged { Unchanged W.words W.clean W.guard w.old w.new }
 {
     for i in 0..n {
@@ -116,9 +118,10 @@ fn is_absent(leaf: Leaf) -> bool
 
 // How many tables mappings of a run of guest pages lack beside those of the pool.
 fn missing_tables<W: Words>(w: &mut W, tvm: &Tvm, first: u64, n: u64) -> u32
-    requires near { first + n ≤ 2 ^ 29 }
-    requires tree { IsTree tvm.now.tables.pages tvm.now.tables.root.0 (W.words w.old) }
-    ensures missing { result ≡ tables_lacked tvm.now.tables.pages tvm.now.tables.root.0 (W.words w.old) first n - length tvm.now.pool.pages }
+    requires within { n ≤ RANGE_LIMIT }
+    requires near { first + n ≤ guest_limit tvm.now.tables.mode }
+    requires tree { IsTree tvm.now.tables.pages tvm.now.tables.root.0 (leaves_of tvm.now.tables.mode) (W.words w.old) }
+    ensures missing { result ≡ tables_lacked tvm.now.tables.pages tvm.now.tables.root.0 (W.words w.old) (leaves_of tvm.now.tables.mode) first n - length tvm.now.pool.pages }
     ensures unchanged { Unchanged W.words W.clean W.guard w.old w.new }
 {
     let lacked = tvm.tables.need(w, Gpn(first), n as u32);

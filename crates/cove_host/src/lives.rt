@@ -19,6 +19,7 @@ use cove_tvm::{Ground, Tvm};
 pub(crate) fn live(g: &Ground, t: u64) -> Result<&Tvm, Reply>
     ensures told { (words : List ℕ) (S : State) → Stands words g.now S → without_value result ≡ checked (Live S t) }
     ensures found { (words : List ℕ) (S : State) → Stands words g.now S → IfOk result (λ tvm. IsLiveTvm words S t tvm.now) }
+    ensures live { IfOk result (λ tvm. live_at g.now.tvms t ≡ Some tvm.now) }
 {
     match g.tvms.live(t) {
         Some(tvm) => Ok(tvm),

@@ -1,12 +1,13 @@
 //! Runs of guest pages that are mapped.
 
 ghost use Rattle.std.specs.Prelude.{◌≡◌, ◌+◌, ◌/◌, ◌^◌, ◌≤◌, ℕ, OnOk, Some};
+ghost use Rattle.cove_base.specs.Modes.{guest_limit, leaves_of};
 ghost use Rattle.cove_base.specs.Unchanged.{Unchanged};
 ghost use Rattle.cove_base.specs.declared.limits.TheConstants.{RANGE_LIMIT};
 ghost use Rattle.cove_tvm.specs.Called.{IsReady};
 ghost use Rattle.cove_host.specs.Checked.{all_checked, checked};
 ghost use Rattle.cove_host.specs.FoundTvms.{ChangesTvm, IsLiveTvm, IsSomeLiveTvm};
-ghost use Rattle.cove_host.specs.GuestRuns.{AllOwned, mapping_checks, owned_as, run_checks};
+ghost use Rattle.cove_host.specs.GuestRuns.{AllOwned, EndsWithin, mapping_checks, owned_as, run_checks};
 ghost use Rattle.cove_host.specs.Mapped.{MapsIn, MapsRun, MayMapBy};
 ghost use Rattle.cove_model.specs.States.{State};
 ghost use Rattle.cove_tvm.specs.Stands.{Stands};
@@ -38,7 +39,7 @@ pub(crate) fn mappable<W: Words>(
         → result ≡ all_checked (run_checks (owned_as shared) shared S t base n gpa) }
     ensures within { OnOk result ((1 ≤ n) × (n ≤ RANGE_LIMIT)) }
     ensures inside { OnOk result (base / 4096 + n ≤ g.now.pages) }
-    ensures near { OnOk result (gpa / 4096 + n ≤ 2 ^ 29) }
+    ensures near { OnOk result (EndsWithin g.now t gpa n) }
     ensures unchanged { Unchanged W.words W.clean W.guard w.old w.new }
 {
     let tvm = live(g, t)?;
@@ -78,7 +79,7 @@ pub(crate) fn may_map<W: Words>(
     requires within { (1 ≤ n) × (n ≤ RANGE_LIMIT) }
     ensures told { (S : State) (t : ℕ) → IsLiveTvm (W.words w.old) S t tvm.now
         → result ≡ all_checked (mapping_checks shared S t gpa n) }
-    ensures near { OnOk result (gpa / 4096 + n ≤ 2 ^ 29) }
+    ensures near { OnOk result (gpa / 4096 + n ≤ guest_limit tvm.now.tables.mode) }
     ensures unchanged { Unchanged W.words W.clean W.guard w.old w.new }
 {
     kinds_fit(tvm, gpa, n, shared)?;
@@ -97,7 +98,7 @@ pub(crate) fn map_pages<W: Words>(
     shared: bool,
 )
     requires { (tvm : Tvm) → live_at g.old.tvms t ≡ Some tvm
-        → MayMapBy (W.allows (W.guard w.old)) tvm.tables.pages tvm.tables.root.0 first.0 page.0 n shared (W.words w.old) tvm.pool.pages }
+        → MayMapBy (W.allows (W.guard w.old)) tvm.tables.pages tvm.tables.root.0 (leaves_of tvm.tables.mode) first.0 page.0 n shared (W.words w.old) tvm.pool.pages }
     ensures mapped { ChangesTvm t (MapsIn first.0 page.0 n shared (W.words w.old) (W.words w.new)) g.old g.new }
     ensures guard { W.guard w.new ≡ W.guard w.old }
 {
@@ -115,7 +116,7 @@ pub(crate) fn map_into<W: Words>(
     n: u32,
     shared: bool,
 )
-    requires { MayMapBy (W.allows (W.guard w.old)) tvm.old.tables.pages tvm.old.tables.root.0 first.0 page.0 n shared (W.words w.old) tvm.old.pool.pages }
+    requires { MayMapBy (W.allows (W.guard w.old)) tvm.old.tables.pages tvm.old.tables.root.0 (leaves_of tvm.old.tables.mode) first.0 page.0 n shared (W.words w.old) tvm.old.pool.pages }
     ensures mapped { MapsIn first.0 page.0 n shared (W.words w.old) (W.words w.new) tvm.old tvm.new }
     ensures guard { W.guard w.new ≡ W.guard w.old }
 {
@@ -132,8 +133,8 @@ fn map_run<W: Words>(
     shared: bool,
     pool: &mut Pool,
 )
-    requires { MayMapBy (W.allows (W.guard w.old)) tables.pages tables.root.0 first.0 page.0 n shared (W.words w.old) pool.old.pages }
-    ensures mapped { MapsRun tables.pages tables.root.0 first.0 page.0 n n shared (W.words w.old) pool.old.pages (W.words w.new) pool.new.pages }
+    requires { MayMapBy (W.allows (W.guard w.old)) tables.pages tables.root.0 (leaves_of tables.mode) first.0 page.0 n shared (W.words w.old) pool.old.pages }
+    ensures mapped { MapsRun tables.pages tables.root.0 (leaves_of tables.mode) first.0 page.0 n n shared (W.words w.old) pool.old.pages (W.words w.new) pool.new.pages }
     ensures room { pool.new.room ≡ pool.old.room }
     ensures guard { W.guard w.new ≡ W.guard w.old }
 {

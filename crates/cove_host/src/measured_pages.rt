@@ -1,12 +1,14 @@
 //! Measured pages for a TVM that is being built.
 
 ghost use Rattle.std.specs.Prelude.{◌≡◌, ◌+◌, ◌/◌, ◌^◌, ◌<◌, ◌≤◌, ℕ, OnOk, Some, false, length};
+ghost use Rattle.cove_base.specs.Modes.{leaves_of};
 ghost use Rattle.cove_base.specs.Unchanged.{Unchanged};
 ghost use Rattle.cove_base.specs.declared.calls.HostCall.TheVariants.{Measured};
 ghost use Rattle.cove_base.specs.declared.limits.TheConstants.{RANGE_LIMIT};
 ghost use Rattle.cove_tvm.specs.Called.{Called, IsReady};
 ghost use Rattle.cove_host.specs.Checked.{all_checked};
 ghost use Rattle.cove_host.specs.FoundTvms.{ChangesTvm};
+ghost use Rattle.cove_host.specs.GuestRuns.{EndsWithin};
 ghost use Rattle.cove_host.specs.Mapped.{MayMapBy};
 ghost use Rattle.cove_host.specs.MeasuredRuns.{ExtendsBy, MeasuresIn};
 ghost use Rattle.cove_model.specs.HostCalls.{rule};
@@ -73,7 +75,7 @@ fn measurable<W: Words>(
     ensures within { OnOk result ((1 ≤ n) × (n ≤ RANGE_LIMIT)) }
     ensures from { OnOk result (src / 4096 + n ≤ g.now.pages) }
     ensures to { OnOk result (dst / 4096 + n ≤ g.now.pages) }
-    ensures near { OnOk result (gpa / 4096 + n ≤ 2 ^ 29) }
+    ensures near { OnOk result (EndsWithin g.now t gpa n) }
     ensures unchanged { Unchanged W.words W.clean W.guard w.old w.new }
 {
     let tvm = live(g, t)?;
@@ -92,10 +94,10 @@ fn measurable<W: Words>(
 // Measures `n` pages from `page` on, and maps the guest pages of the live TVM `t` from `first` on to them.
 fn map_measured<W: Words>(w: &mut W, g: &mut Ground, t: u64, first: Gpn, page: Page, n: u32)
     requires may { (tvm : Tvm) → live_at g.old.tvms t ≡ Some tvm
-        → MayMapBy (W.allows (W.guard w.old)) tvm.tables.pages tvm.tables.root.0 first.0 page.0 n false (W.words w.old) tvm.pool.pages }
+        → MayMapBy (W.allows (W.guard w.old)) tvm.tables.pages tvm.tables.root.0 (leaves_of tvm.tables.mode) first.0 page.0 n false (W.words w.old) tvm.pool.pages }
     requires inside { page.0 + n ≤ length g.old.memory }
     requires limit { length g.old.memory < 2 ^ 32 }
-    requires near { first.0 + n ≤ 2 ^ 29 }
+    requires near { first.0 + n ≤ 2 ^ 38 }
     ensures mapped { ChangesTvm t (MeasuresIn first.0 page.0 n g.old.memory (W.words w.old) (W.words w.new)) g.old g.new }
     ensures guard { W.guard w.new ≡ W.guard w.old }
 {
@@ -106,10 +108,10 @@ fn map_measured<W: Words>(w: &mut W, g: &mut Ground, t: u64, first: Gpn, page: P
 
 // The same for the TVM itself.
 fn measure_into<W: Words>(w: &mut W, tvm: &mut Tvm, memory: &Memory, first: Gpn, page: Page, n: u32)
-    requires may { MayMapBy (W.allows (W.guard w.old)) tvm.old.tables.pages tvm.old.tables.root.0 first.0 page.0 n false (W.words w.old) tvm.old.pool.pages }
+    requires may { MayMapBy (W.allows (W.guard w.old)) tvm.old.tables.pages tvm.old.tables.root.0 (leaves_of tvm.old.tables.mode) first.0 page.0 n false (W.words w.old) tvm.old.pool.pages }
     requires inside { page.0 + n ≤ length memory.now }
     requires limit { length memory.now < 2 ^ 32 }
-    requires near { first.0 + n ≤ 2 ^ 29 }
+    requires near { first.0 + n ≤ 2 ^ 38 }
     ensures mapped { MeasuresIn first.0 page.0 n memory.now (W.words w.old) (W.words w.new) tvm.old tvm.new }
     ensures guard { W.guard w.new ≡ W.guard w.old }
 {
@@ -121,7 +123,7 @@ fn measure_into<W: Words>(w: &mut W, tvm: &mut Tvm, memory: &Memory, first: Gpn,
 fn measure_all(registers: &mut Registers, memory: &Memory, first: Gpn, page: Page, n: u32)
     requires inside { page.0 + n ≤ length memory.now }
     requires limit { length memory.now < 2 ^ 32 }
-    requires near { first.0 + n ≤ 2 ^ 29 }
+    requires near { first.0 + n ≤ 2 ^ 38 }
     ensures { ExtendsBy first.0 page.0 n memory.now registers.old registers.new }
 {
     for i in 0..n {

@@ -1,6 +1,7 @@
 //! The regions of TVMs.
 
-ghost use Rattle.std.specs.Prelude.{◌≡◌, ◌+◌, ◌/◌, ◌^◌, ◌<◌, ◌≤◌, ℕ, List, OnOk, Some};
+ghost use Rattle.std.specs.Prelude.{◌≡◌, ◌+◌, ◌*◌, ◌/◌, ◌^◌, ◌<◌, ◌≤◌, ℕ, List, OnOk, Some};
+ghost use Rattle.cove_base.specs.Modes.{guest_limit};
 ghost use Rattle.cove_base.specs.Unchanged.{Unchanged};
 ghost use Rattle.cove_base.specs.declared.calls.HostCall.TheVariants.{Region};
 ghost use Rattle.cove_tvm.specs.Called.{Called};
@@ -44,30 +45,34 @@ pub fn add_memory_region<W: Words>(
 fn addable(g: &Ground, t: u64, gpa: u64, len: u64) -> Result<(), Reply>
     ensures told { (words : List ℕ) (hart : ℕ) (S : State) → Stands words g.now S
         → result ≡ all_checked (rule S hart (Region t gpa len)).checks }
-    ensures area { OnOk result ((0 < len / 4096) × (gpa + len ≤ 2 ^ 41)) }
+    ensures some { OnOk result (0 < len / 4096) }
+    ensures area { OnOk result ((tvm : Tvm) → live_at g.now.tvms t ≡ Some tvm → gpa + len ≤ 4096 * guest_limit tvm.tables.mode) }
+    ensures fits { OnOk result (gpa + len ≤ 2 ^ 50) }
 {
     let tvm = live(g, t)?;
     is_building(tvm)?;
     aligned(gpa)?;
     aligned(len)?;
-    is_area(gpa, len)?;
+    is_area(tvm, gpa, len)?;
     no_overlap(tvm, gpa, len)?;
     room_for_region(tvm)
 }
 
-// The region is not empty and ends within the guest addresses.
-fn is_area(gpa: u64, len: u64) -> Result<(), Reply>
-    ensures told { result ≡ checked (IsArea gpa len) }
+// The region is not empty and ends within the guest addresses of the TVM's mode.
+fn is_area(tvm: &Tvm, gpa: u64, len: u64) -> Result<(), Reply>
+    ensures told { (words : List ℕ) (S : State) (t : ℕ) → IsLiveTvm words S t tvm.now
+        → result ≡ checked (IsArea S t gpa len) }
     ensures some { OnOk result (0 < len) }
-    ensures within { OnOk result (gpa + len ≤ 2 ^ 41) }
+    ensures within { OnOk result (gpa + len ≤ 4096 * guest_limit tvm.now.tables.mode) }
 {
     let end = u128::from(gpa) + u128::from(len);
-    check(len == 0 || end > 1 << 41, Status::InvalidAddress)
+    let limit = 4096 * u128::from(tvm.tables.mode.guest_limit());
+    check(len == 0 || end > limit, Status::InvalidAddress)
 }
 
 // The region meets none of the TVM's.
 fn no_overlap(tvm: &Tvm, gpa: u64, len: u64) -> Result<(), Reply>
-    requires { gpa + len ≤ 2 ^ 41 }
+    requires { gpa + len ≤ 2 ^ 50 }
     ensures told { (words : List ℕ) (S : State) (t : ℕ) → IsLiveTvm words S t tvm.now
         → result ≡ checked (NoOverlap S t gpa len) }
 {

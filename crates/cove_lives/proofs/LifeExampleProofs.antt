@@ -1,8 +1,10 @@
 -- What the worked life of a TVM shows.
-use Rattle.std.proofs.Common.{◌≡◌, ℕ, zero, suc, ◌<◌, ◌≤◌, true, [], get_or, replicate, refl, sym, ap, ◌∙◌, true≢false, inr, arith}
+use Rattle.std.proofs.Common.{◌≡◌, ℕ, zero, suc, ◌<◌, ◌≤◌, true, [], get_or, replicate, refl, sym, ap, subst, ◌∙◌, true≢false, inr, arith}
 use Rattle.std.proofs.lemmas.Option.{none-some}
 use Rattle.cove_base.proofs.StoreLemmas.{get_or-fills_other, get_or-stored_other}
 use Rattle.cove_model.specs.Machine.{converting, given, all_words, tvm_word, ENTRY_LIMIT, effect, IsOrderly, Owner, Purpose, Given, is_free, is_host, page_at, IsSeated, opening, created, FencesWithin, FrameStands, FramesStand, Convert}
+use Rattle.cove_base.specs.Modes.{guest_limit}
+use Rattle.cove_base.specs.declared.modes.Mode.TheVariants.{Sv39x4}
 use Rattle.cove_base.specs.declared.numbers.Role.TheVariants.{State as StateRole, Table}
 use Rattle.cove_model.proofs.Lists.{replicate_zero}
 use Rattle.cove_model.proofs.Running.{none_seated}
@@ -21,6 +23,7 @@ use Rattle.cove_tvm.specs.NewTvms.{MayCreate}
 use Rattle.cove_tvm.specs.PrivateRuns.{MayGrow}
 use Rattle.cove_tvm.specs.SharedRuns.{MayShare}
 use Rattle.cove_tvm.specs.Stands.{Stands}
+use Rattle.cove_tvm.specs.TvmTables.{IsNewTvm}
 
 -- ---- the board
 
@@ -103,15 +106,16 @@ may_create = record {
   state_free = refl;
 }
 
-module _ (tables : Tables) (root : tables.root.0 ≡ 4) (pages : tables.pages ≡ 9) where
+module _ (tables : Tables) (root : tables.root.0 ≡ 4) (pages : tables.pages ≡ 9) (mode : tables.mode ≡ Sv39x4) where
   pub creation : Stands created_words (created_ground tables) created_state
-  creation = create_stands freed_words nine_ground freed_state 0 0x4000 0x8000 (begun tables) board orderly seated fences may_create (begun_is_new tables root pages)
+  creation = create_stands freed_words nine_ground freed_state 0 0x4000 0x8000 (begun tables) board orderly seated fences may_create
+      (subst (λ m. IsNewTvm 9 0x10009 4 m 8 (begun tables)) mode (begun_is_new tables root pages))
 
-  pub free : MayGive created_words (created_ground tables) created_state 0 0 2 (begun tables) (created 1 0x10009)
+  pub free : MayGive created_words (created_ground tables) created_state 0 0 2 (begun tables) (created 1 Sv39x4 0x10009)
   free = record { stands = creation; live = refl; found = refl; inside = omega arith; free = refl }
 
   pub supply : Stands supplied_words (supplied_ground tables) supplied_state
-  supply = tables_stand 0 created_words (created_ground tables) created_state 0 0 2 (begun tables) (supplied_tvm tables) (created 1 0x10009) free
+  supply = tables_stand 0 created_words (created_ground tables) created_state 0 0 2 (begun tables) (supplied_tvm tables) (created 1 Sv39x4 0x10009) free
       (record { pages = refl; room = refl; rest = refl })
 
   pub own : MayGrow supplied_words (supplied_ground tables) supplied_state 0 0x2000 1 0x9000 (supplied_tvm tables) supplied_model
@@ -122,7 +126,7 @@ module _ (tables : Tables) (root : tables.root.0 ≡ 4) (pages : tables.pages �
     found = refl;
     inside = omega arith;
     owners = refl;
-    near = omega arith;
+    near = subst (λ m. 10 ≤ guest_limit m) (sym mode) (omega arith);
     unmapped = refl;
     enough = refl;
   }
@@ -135,7 +139,7 @@ module _ (tables : Tables) (root : tables.root.0 ≡ 4) (pages : tables.pages �
     found = refl;
     inside = omega arith;
     owners = refl;
-    near = omega arith;
+    near = subst (λ m. 10 ≤ guest_limit m) (sym mode) (omega arith);
     unmapped = refl;
     enough = refl;
   }
@@ -155,16 +159,16 @@ module _ (tables : Tables) where
       let was : get_or created_words 0 0 ≡ converting 0 = refl in
       omega arith
 
-  pub host_page : MayGive created_words (created_ground tables) created_state 0 0x3000 1 (begun tables) (created 1 0x10009) → ⊥
+  pub host_page : MayGive created_words (created_ground tables) created_state 0 0x3000 1 (begun tables) (created 1 Sv39x4 0x10009) → ⊥
   host_page may = true≢false (sym may.free)
 
-  pub past_the_board : MayGive created_words (created_ground tables) created_state 0 0x9000 1 (begun tables) (created 1 0x10009) → ⊥
+  pub past_the_board : MayGive created_words (created_ground tables) created_state 0 0x9000 1 (begun tables) (created 1 Sv39x4 0x10009) → ⊥
   past_the_board may = let inside : 10 ≤ 9 = may.inside in omega arith
 
-  pub to_none : MayGive created_words (created_ground tables) created_state 1 0 2 (begun tables) (created 1 0x10009) → ⊥
+  pub to_none : MayGive created_words (created_ground tables) created_state 1 0 2 (begun tables) (created 1 Sv39x4 0x10009) → ⊥
   to_none may = none-some (begun tables) may.live
 
-  pub no_tables : MayGrow created_words (created_ground tables) created_state 0 0x2000 1 0x9000 (begun tables) (created 1 0x10009) → ⊥
+  pub no_tables : MayGrow created_words (created_ground tables) created_state 0 0x2000 1 0x9000 (begun tables) (created 1 Sv39x4 0x10009) → ⊥
   no_tables may = let none : ◌≡◌ {A = ℕ} 2 0 = may.enough in omega arith
 
   pub host_page_as_own : MayGrow supplied_words (supplied_ground tables) supplied_state 0 0x3000 1 0x9000 (supplied_tvm tables) supplied_model → ⊥

@@ -5,10 +5,12 @@ use Rattle.std.proofs.lemmas.Option.{same_Some}
 use Rattle.cove_base.specs.InterruptFiles.{InterruptFile}
 use Rattle.cove_model.specs.Machine.{given, host, all_words, hart_word, table_word, Role, Root, Table, Vcpu, Data, Within, Seat, new_cpu, Begun, NotBegun, created, new_tvm}
 use Rattle.cove_base.specs.TableWords.{blocked}
-use Rattle.cove_base.specs.Tables.{Slot, IsLinkSlot, entry_at, next_table, present}
+use Rattle.cove_base.specs.Tables.{Slot, IsSlot, entry_at, next_table, present}
+use Rattle.cove_base.specs.Modes.{leaves_of}
+use Rattle.cove_base.specs.declared.modes.Mode.{Mode}
+use Rattle.cove_base.specs.declared.modes.Mode.TheVariants.{Sv39x4, Sv48x4}
 use Rattle.cove_base.specs.declared.numbers.Role.TheVariants.{State}
 use Rattle.cove_base.specs.declared.registers.Regs.{Regs}
-use Rattle.cove_base.proofs.TreeLemmas.{link-slot}
 use Rattle.cove_imsic.specs.FileTables.{FileTable}
 use Rattle.cove_model.proofs.LeafWords.{given_host}
 use Rattle.cove_model.proofs.Lists.{replicate_zero}
@@ -84,7 +86,7 @@ has_begun = record {
   nobody = outside;
 }
 
-pub begun_is_new : (tables : Tables) → tables.root.0 ≡ 4 → tables.pages ≡ 9 → IsNewTvm 9 0x10009 4 8 (begun tables)
+pub begun_is_new : (tables : Tables) → tables.root.0 ≡ 4 → tables.pages ≡ 9 → IsNewTvm 9 0x10009 4 tables.mode 8 (begun tables)
 begun_is_new tables root pages = record {
   life = refl;
   regions = refl;
@@ -92,6 +94,7 @@ begun_is_new tables root pages = record {
   allowed = refl;
   board = pages;
   root_is = root;
+  mode_is = refl;
   pool = refl;
   room = refl;
   state_is = refl;
@@ -102,19 +105,27 @@ begun_is_new tables root pages = record {
 }
 
 pub new : (seats : ℕ → Option Seat) (files : FileTable) (tables : Tables) → tables.root.0 ≡ 4 → tables.pages ≡ 9
-    → LiveStands 9 1 begun_words 1 seats files (begun tables) (created 1 0x10009)
-new seats files tables root pages = begun_lives 9 1 begun_words 1 4 8 has_begun 0x10009 seats files (begun tables) (begun_is_new tables root pages)
+    → LiveStands 9 1 begun_words 1 seats files (begun tables) (created 1 tables.mode 0x10009)
+new seats files tables root pages = begun_lives 9 1 begun_words 1 4 8 has_begun 0x10009 tables.mode seats files (begun tables) (begun_is_new tables root pages)
+
+-- the modes differ
+pub modes_apart : (mode : Mode) → mode ≡ Sv39x4 → mode ≡ Sv48x4 → ⊥
+modes_apart mode low high = let is : leaves_of Sv39x4 ≡ leaves_of Sv48x4 = ap leaves_of (sym low ∙ high) in omega arith
+
+pub another_mode : (files : FileTable) (tables : Tables) → tables.mode ≡ Sv39x4
+    → LiveStands 9 1 begun_words 1 nowhere files (begun tables) (created 1 Sv48x4 0x10009) → ⊥
+another_mode files tables low stands = modes_apart tables.mode low stands.mode
 
 pub finalized : (files : FileTable) (tables : Tables)
-    → LiveStands 9 1 begun_words 1 nowhere files (begun tables) (record (created 1 0x10009) { runnable = true }) → ⊥
+    → LiveStands 9 1 begun_words 1 nowhere files (begun tables) (record (created 1 tables.mode 0x10009) { runnable = true }) → ⊥
 finalized files tables stands = true≢false (sym stands.fields.life)
 
 pub injected : (files : FileTable) (tables : Tables)
-    → LiveStands 9 1 begun_words 1 nowhere files (begun tables) (record (created 1 0x10009) { allowed = 5 ∷ [] }) → ⊥
+    → LiveStands 9 1 begun_words 1 nowhere files (begun tables) (record (created 1 tables.mode 0x10009) { allowed = 5 ∷ [] }) → ⊥
 injected files tables stands = true≢false (sym (stands.fields.allowed 5))
 
 pub has_vcpu : (files : FileTable) (tables : Tables)
-    → LiveStands 9 1 begun_words 1 nowhere files (begun tables) (record (created 1 0x10009) { cpus = new_cpu 0 ∷ [] }) → ⊥
+    → LiveStands 9 1 begun_words 1 nowhere files (begun tables) (record (created 1 tables.mode 0x10009) { cpus = new_cpu 0 ∷ [] }) → ⊥
 has_vcpu files tables stands = stands.fields.cpu 0
 
 abbrev one_more : List ℕ
@@ -124,14 +135,14 @@ more_past : (n : ℕ) → n < 2048 → get_or one_more (table_word 9 4 n) 0 ≡ 
 more_past n low = get_or-set_other begun_words 3 (table_word 9 4 n) (given 1 Table) 0 (omega arith) ∙ past_pages (table_word 9 4 n) (omega arith)
 
 pub lost_page : (files : FileTable) (tables : Tables) → tables.root.0 ≡ 4
-    → LiveStands 9 1 one_more 1 nowhere files (begun tables) (created 1 0x10009) → ⊥
+    → LiveStands 9 1 one_more 1 nowhere files (begun tables) (created 1 tables.mode 0x10009) → ⊥
 lost_page files tables root stands = elim (stands.owned.found 3 Table (omega arith) refl) [
   | inl spare ↦ let low : spare.0 < 0 = spare.1 in omega arith
   | inr named ↦ not_named named.0 named.1 (subst (λ r. entry_at 9 r one_more named.0 ≡ next_table 3) root named.2)
 ]
   where
-    not_named : (a : Slot) → IsLinkSlot a → entry_at 9 4 one_more a ≡ next_table 3 → ⊥
-    not_named a slot named = let e = sym (empty-entries 9 4 one_more more_past a (link-slot a slot)) ∙ named in omega arith
+    not_named : (a : Slot) → IsSlot a → entry_at 9 4 one_more a ≡ next_table 3 → ⊥
+    not_named a slot named = let e = sym (empty-entries 9 4 one_more more_past a slot) ∙ named in omega arith
 
 pub another : (files : FileTable) (tables : Tables) → LiveStands 9 1 begun_words 2 nowhere files (begun tables) (new_tvm 2) → ⊥
 another files tables stands = let is : given 1 State ≡ given 2 State = stands.owned.state_is in omega arith

@@ -5,6 +5,7 @@ use Rattle.cove_base.specs.Places.{all_words}
 use Rattle.cove_base.specs.Scripts.{ScriptValue}
 use Rattle.cove_base.specs.Stores.{stored}
 use Rattle.cove_base.specs.declared.calls.HostCall.TheVariants.{Convert, Create, GlobalFence, Tables as TablesCall}
+use Rattle.cove_base.specs.declared.modes.Mode.TheVariants.{Sv39x4}
 use Rattle.cove_model.specs.Answers.{effect}
 use Rattle.cove_model.specs.States.{State, opening, opening_words}
 use Rattle.cove_model.specs.Tvms.{Tvm as ModelTvm, created}
@@ -70,4 +71,4 @@ abbrev pub supplied_state : State
 supplied_state = effect created_state 0 (TablesCall 1 0 2)
 
 abbrev pub supplied_model : ModelTvm
-supplied_model = record (created 1 0x10009) { tables = 0 ∷ 1 ∷ [] }
+supplied_model = record (created 1 Sv39x4 0x10009) { tables = 0 ∷ 1 ∷ [] }

@@ -5,6 +5,7 @@ ghost use Rattle.cove_base.specs.PageWords.{given, host, released};
 ghost use Rattle.cove_base.specs.Places.{epoch_word};
 ghost use Rattle.cove_base.specs.Registers.{registers};
 ghost use Rattle.cove_base.specs.TableWords.{shared_leaf};
+ghost use Rattle.cove_base.specs.declared.modes.Mode.TheVariants.{Sv39x4, Sv48x4};
 ghost use Rattle.cove_base.specs.declared.numbers.Role.TheVariants.{Table};
 ghost use Rattle.cove_base.specs.declared.registers.Regs.{Regs};
 ghost use Rattle.cove_model.specs.Tvms.{new_tvm};
@@ -24,11 +25,12 @@ ghost use Rattle.cove_tvm.specs.declared.vcpus.VcpuSlot.{VcpuSlot};
 
 /// A TVM begins unfinished, with its root and its state page, and without a vCPU or an interrupt that may be injected.
 pub fn worked_beginning()
-    ensures begun { (tables : Tables) → tables.root.0 ≡ 4 → tables.pages ≡ 9 → IsNewTvm 9 0x10009 4 8 (begun tables) }
-    ensures another_root { (tables : Tables) → tables.root.0 ≡ 5 → IsNewTvm 9 0x10009 4 8 (begun tables) → ⊥ }
-    ensures finalized { (tables : Tables) → IsNewTvm 9 0x10009 4 8 (record (begun tables) { life = Runnable }) → ⊥ }
-    ensures has_vcpu { (tables : Tables) (slot : VcpuSlot) → IsNewTvm 9 0x10009 4 8 (record (begun tables) { v3 = Some slot }) → ⊥ }
-    ensures may_inject { (tables : Tables) → IsNewTvm 9 0x10009 4 8 (record (begun tables) { allowed = 1 }) → ⊥ }
+    ensures begun { (tables : Tables) → tables.root.0 ≡ 4 → tables.pages ≡ 9 → IsNewTvm 9 0x10009 4 tables.mode 8 (begun tables) }
+    ensures another_root { (tables : Tables) → tables.root.0 ≡ 5 → IsNewTvm 9 0x10009 4 tables.mode 8 (begun tables) → ⊥ }
+    ensures another_mode { (tables : Tables) → tables.mode ≡ Sv39x4 → IsNewTvm 9 0x10009 4 Sv48x4 8 (begun tables) → ⊥ }
+    ensures finalized { (tables : Tables) → IsNewTvm 9 0x10009 4 tables.mode 8 (record (begun tables) { life = Runnable }) → ⊥ }
+    ensures has_vcpu { (tables : Tables) (slot : VcpuSlot) → IsNewTvm 9 0x10009 4 tables.mode 8 (record (begun tables) { v3 = Some slot }) → ⊥ }
+    ensures may_inject { (tables : Tables) → IsNewTvm 9 0x10009 4 tables.mode 8 (record (begun tables) { allowed = 1 }) → ⊥ }
 {}
 
 /// The page word of a page that is given says the TVM and what it is for.

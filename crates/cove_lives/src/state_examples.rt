@@ -6,6 +6,7 @@ ghost use Rattle.cove_base.specs.PageWords.{given};
 ghost use Rattle.cove_base.specs.Registers.{registers};
 ghost use Rattle.cove_base.specs.TableWords.{blocked};
 ghost use Rattle.cove_base.specs.Tables.{present};
+ghost use Rattle.cove_base.specs.declared.modes.Mode.TheVariants.{Sv39x4, Sv48x4};
 ghost use Rattle.cove_base.specs.declared.numbers.Role.TheVariants.{Table};
 ghost use Rattle.cove_base.specs.declared.registers.Regs.{Regs};
 ghost use Rattle.cove_imsic.specs.FileTables.{FileTable};
@@ -24,15 +25,17 @@ ghost use Rattle.cove_tvm.specs.declared.vcpus.VcpuSlot.{VcpuSlot};
 /// A TVM that was just created stands for a new one, where each page that is given to it is found.
 pub fn worked_living()
     ensures new { (seats : ℕ → Option Seat) (files : FileTable) (tables : Tables) → tables.root.0 ≡ 4 → tables.pages ≡ 9
-        → LiveStands 9 1 begun_words 1 seats files (begun tables) (created 1 0x10009) }
+        → LiveStands 9 1 begun_words 1 seats files (begun tables) (created 1 tables.mode 0x10009) }
+    ensures another_mode { (files : FileTable) (tables : Tables) → tables.mode ≡ Sv39x4
+        → LiveStands 9 1 begun_words 1 nowhere files (begun tables) (created 1 Sv48x4 0x10009) → ⊥ }
     ensures finalized { (files : FileTable) (tables : Tables)
-        → LiveStands 9 1 begun_words 1 nowhere files (begun tables) (record (created 1 0x10009) { runnable = true }) → ⊥ }
+        → LiveStands 9 1 begun_words 1 nowhere files (begun tables) (record (created 1 tables.mode 0x10009) { runnable = true }) → ⊥ }
     ensures injected { (files : FileTable) (tables : Tables)
-        → LiveStands 9 1 begun_words 1 nowhere files (begun tables) (record (created 1 0x10009) { allowed = 5 ∷ [] }) → ⊥ }
+        → LiveStands 9 1 begun_words 1 nowhere files (begun tables) (record (created 1 tables.mode 0x10009) { allowed = 5 ∷ [] }) → ⊥ }
     ensures has_vcpu { (files : FileTable) (tables : Tables)
-        → LiveStands 9 1 begun_words 1 nowhere files (begun tables) (record (created 1 0x10009) { cpus = new_cpu 0 ∷ [] }) → ⊥ }
+        → LiveStands 9 1 begun_words 1 nowhere files (begun tables) (record (created 1 tables.mode 0x10009) { cpus = new_cpu 0 ∷ [] }) → ⊥ }
     ensures lost_page { (files : FileTable) (tables : Tables) → tables.root.0 ≡ 4
-        → LiveStands 9 1 (slice_set begun_words 3 (given 1 Table)) 1 nowhere files (begun tables) (created 1 0x10009) → ⊥ }
+        → LiveStands 9 1 (slice_set begun_words 3 (given 1 Table)) 1 nowhere files (begun tables) (created 1 tables.mode 0x10009) → ⊥ }
     ensures another { (files : FileTable) (tables : Tables) → LiveStands 9 1 begun_words 2 nowhere files (begun tables) (new_tvm 2) → ⊥ }
 {}
 

@@ -9,6 +9,6 @@ mod tables;
 
 pub use regions::{worked_areas, worked_kinds, worked_rows, worked_standing};
 pub use tables::{
-    worked_changes, worked_clearing, worked_entries, worked_links, worked_mapping, worked_pools,
-    worked_walks,
+    worked_changes, worked_clearing, worked_deep_mapping, worked_entries, worked_links,
+    worked_mapping, worked_pools, worked_walks, worked_ways,
 };

@@ -1,9 +1,9 @@
 -- What a hart is offered, what it seeks, and what its event then looked for.
-use Rattle.std.proofs.Common.{◌≡◌, ℕ, ◌^◌, ◌<◌, ◌≤◌, Bool, true, false, cond, eqb, nat_lt, ltb-true, ltb-false, lt-ltb, le-ltb, Option, Some, None, is_some, refl, sym, ap, ◌∙◌, arith}
+use Rattle.std.proofs.Common.{◌≡◌, ℕ, ◌*◌, ◌<◌, ◌≤◌, Bool, true, false, cond, eqb, nat_lt, ltb-true, ltb-false, lt-ltb, le-ltb, Option, Some, None, is_some, refl, sym, ap, ◌∙◌, arith}
 use Rattle.std.specs.Option.{option_map_or}
 use Rattle.std.proofs.lemmas.Bool.{cond-true, cond-false}
 use Rattle.cove_base.specs.Executions.{plan}
-use Rattle.cove_model.specs.Machine.{next_line, ScriptValue, GuestAct, Event, How, Line, ScriptLine, Reply, Target, has, page_of, Seat, State, ended_by, refusal_by, reply_by, Deed, Tires, Fetches, Executes, Loads, Stores, Asks, Waits, Traps, csr_deed, deed_of, deed_with, is_woken, next_place, planned, guest_rule, Offer, Nothing, Behind, Single, Touch, access_target, act_event, cpu_of, deed_offer, fault_exit, fetch_target, first_behind, guest_touch, kicked_offer, line_offer, offer, outside_offer, sought, target_of, unkicked_offer, unless_behind, IsStill, Came, Failed, data_address, guest_touched, missed, touched_at, Cpu}
+use Rattle.cove_model.specs.Machine.{next_line, ScriptValue, GuestAct, Event, How, Line, ScriptLine, Reply, Target, has, page_of, Seat, State, ended_by, guests_in, refusal_by, reply_by, Deed, Tires, Fetches, Executes, Loads, Stores, Asks, Waits, Traps, csr_deed, deed_of, deed_with, is_woken, next_place, planned, guest_rule, Offer, Nothing, Behind, Single, Touch, access_target, act_event, cpu_of, deed_offer, fault_exit, fetch_target, first_behind, guest_touch, kicked_offer, line_offer, offer, outside_offer, sought, target_of, unkicked_offer, unless_behind, IsStill, Came, Failed, data_address, guest_touched, missed, touched_at, Cpu}
 use Rattle.cove_base.specs.Instructions.{decoded}
 use Rattle.cove_base.specs.Registers.{register}
 use Rattle.cove_base.specs.declared.calls.GuestAct.TheVariants as acts
@@ -17,36 +17,36 @@ use Rattle.cove_base.specs.InterruptFiles.{csr_read}
 
 -- ---- a vCPU that is left as it was aims as it did
 
-aim_cut : (b : Bool) (d e : Deed) → aim d ≡ None → aim e ≡ None → aim (cond b d e) ≡ None
-aim_cut true d e p q = p
-aim_cut false d e p q = q
+aim_cut : (guests : ℕ) (b : Bool) (d e : Deed) → aim guests d ≡ None → aim guests e ≡ None → aim guests (cond b d e) ≡ None
+aim_cut guests true d e p q = p
+aim_cut guests false d e p q = q
 
-aim_csr : (cpu : Cpu) (p : ℕ) (mode : _) (source : ℕ) (writes : Bool) (rd : ℕ) (o : Option ℕ) → aim (csr_deed cpu p mode source writes rd o) ≡ None
-aim_csr cpu p mode source writes rd None = refl
-aim_csr cpu p mode source writes rd (Some old) = refl
+aim_csr : (guests : ℕ) (cpu : Cpu) (p : ℕ) (mode : _) (source : ℕ) (writes : Bool) (rd : ℕ) (o : Option ℕ) → aim guests (csr_deed cpu p mode source writes rd o) ≡ None
+aim_csr guests cpu p mode source writes rd None = refl
+aim_csr guests cpu p mode source writes rd (Some old) = refl
 
-aim_planned : (cpu now : Cpu) (p : Plan) → aim (planned now p) ≡ aim (planned cpu p)
-aim_planned cpu now (plans.Done rd value pc) = refl
-aim_planned cpu now (plans.Load addr size signed rd) = refl
-aim_planned cpu now (plans.Store addr size value) = refl
-aim_planned cpu now (plans.Csr csr mode source writes rd) =
-    aim_csr now csr mode source writes rd (cond (is_some now.binding) (csr_read now.file csr) None)
-    ∙ sym (aim_csr cpu csr mode source writes rd (cond (is_some cpu.binding) (csr_read cpu.file csr) None))
-aim_planned cpu now plans.Ecall = refl
-aim_planned cpu now (plans.Trap cause) = refl
-aim_planned cpu now plans.Wfi =
-    aim_cut (is_woken now) (Executes 0 0 (next_place now.pc) now.file) Waits refl refl
-    ∙ sym (aim_cut (is_woken cpu) (Executes 0 0 (next_place cpu.pc) cpu.file) Waits refl refl)
+aim_planned : (guests : ℕ) (cpu now : Cpu) (p : Plan) → aim guests (planned now p) ≡ aim guests (planned cpu p)
+aim_planned guests cpu now (plans.Done rd value pc) = refl
+aim_planned guests cpu now (plans.Load addr size signed rd) = refl
+aim_planned guests cpu now (plans.Store addr size value) = refl
+aim_planned guests cpu now (plans.Csr csr mode source writes rd) =
+    aim_csr guests now csr mode source writes rd (cond (is_some now.binding) (csr_read now.file csr) None)
+    ∙ sym (aim_csr guests cpu csr mode source writes rd (cond (is_some cpu.binding) (csr_read cpu.file csr) None))
+aim_planned guests cpu now plans.Ecall = refl
+aim_planned guests cpu now (plans.Trap cause) = refl
+aim_planned guests cpu now plans.Wfi =
+    aim_cut guests (is_woken now) (Executes 0 0 (next_place now.pc) now.file) Waits refl refl
+    ∙ sym (aim_cut guests (is_woken cpu) (Executes 0 0 (next_place cpu.pc) cpu.file) Waits refl refl)
 
-pub aim_still : (cpu now : Cpu) → IsStill cpu now → aim (deed_of now) ≡ aim (deed_of cpu)
-aim_still cpu now still = ap (λ o. aim (deed_with now o)) still.latched ∙ go cpu.latched
+pub aim_still : (guests : ℕ) (cpu now : Cpu) → IsStill cpu now → aim guests (deed_of now) ≡ aim guests (deed_of cpu)
+aim_still guests cpu now still = ap (λ o. aim guests (deed_with now o)) still.latched ∙ go cpu.latched
   where
-    insn : (o : Option Insn) → aim (option_map_or (λ i. planned now (plan now.x now.pc i)) o (Traps 2)) ≡ aim (option_map_or (λ i. planned cpu (plan cpu.x cpu.pc i)) o (Traps 2))
+    insn : (o : Option Insn) → aim guests (option_map_or (λ i. planned now (plan now.x now.pc i)) o (Traps 2)) ≡ aim guests (option_map_or (λ i. planned cpu (plan cpu.x cpu.pc i)) o (Traps 2))
     insn None = refl
-    insn (Some i) = ap (λ x. aim (planned now (plan x now.pc i))) still.x ∙ ap (λ pc. aim (planned now (plan cpu.x pc i))) still.pc ∙ aim_planned cpu now (plan cpu.x cpu.pc i)
+    insn (Some i) = ap (λ x. aim guests (planned now (plan x now.pc i))) still.x ∙ ap (λ pc. aim guests (planned now (plan cpu.x pc i))) still.pc ∙ aim_planned guests cpu now (plan cpu.x cpu.pc i)
 
-    go : (o : Option ℕ) → aim (deed_with now o) ≡ aim (deed_with cpu o)
-    go None = ap (λ f. aim (cond (eqb f 0) Tires (Fetches now.pc))) still.fuel ∙ ap (λ pc. aim (cond (eqb cpu.fuel 0) Tires (Fetches pc))) still.pc
+    go : (o : Option ℕ) → aim guests (deed_with now o) ≡ aim guests (deed_with cpu o)
+    go None = ap (λ f. aim guests (cond (eqb f 0) Tires (Fetches now.pc))) still.fuel ∙ ap (λ pc. aim guests (cond (eqb cpu.fuel 0) Tires (Fetches pc))) still.pc
     go (Some word) = insn (decoded word)
 
 -- ---- offers
@@ -73,28 +73,28 @@ shows_outside script S h (Some line) e = go (first_behind script S line.phase)
     go None = shows_line script S h line e line.line refl
     go (Some k) = tt
 
-missed_below : (cause addr : ℕ) (target : Target) → cond (eqb cause 20) (fetch_target addr) (access_target addr) ≡ target → nat_lt addr (2 ^ 41) ≡ true
-    → missed cause (record { 0 = page_of addr }) ≡ Some (target, Failed)
-missed_below cause addr target is low =
-    let l : addr < 2 ^ 41 = ltb-true addr (2 ^ 41) low in
-    cond-true (nat_lt (page_of addr) (2 ^ 29)) (Some (cond (eqb cause 20) (fetch_target addr) (access_target addr), Failed)) None (lt-ltb (page_of addr) (2 ^ 29) (omega arith))
+missed_below : (guests cause addr : ℕ) (target : Target) → cond (eqb cause 20) (fetch_target addr) (access_target addr) ≡ target → nat_lt addr (4096 * guests) ≡ true
+    → missed guests cause (record { 0 = page_of addr }) ≡ Some (target, Failed)
+missed_below guests cause addr target is low =
+    let l : addr < 4096 * guests = ltb-true addr (4096 * guests) low in
+    cond-true (nat_lt (page_of addr) guests) (Some (cond (eqb cause 20) (fetch_target addr) (access_target addr), Failed)) None (lt-ltb (page_of addr) guests (omega arith))
     ∙ ap (λ (t : Target). Some (t, Failed)) is
 
-missed_past : (cause addr : ℕ) → nat_lt addr (2 ^ 41) ≡ false → missed cause (record { 0 = page_of addr }) ≡ None
-missed_past cause addr high =
-    let l : 2 ^ 41 ≤ addr = ltb-false addr (2 ^ 41) high in
-    cond-false (nat_lt (page_of addr) (2 ^ 29)) (Some (cond (eqb cause 20) (fetch_target addr) (access_target addr), Failed)) None (le-ltb (page_of addr) (2 ^ 29) (omega arith))
+missed_past : (guests cause addr : ℕ) → nat_lt addr (4096 * guests) ≡ false → missed guests cause (record { 0 = page_of addr }) ≡ None
+missed_past guests cause addr high =
+    let l : 4096 * guests ≤ addr = ltb-false addr (4096 * guests) high in
+    cond-false (nat_lt (page_of addr) guests) (Some (cond (eqb cause 20) (fetch_target addr) (access_target addr), Failed)) None (le-ltb (page_of addr) guests (omega arith))
 
 shows_touch : (script : ScriptValue) (S : State) (h : ℕ) (seat : Seat) (target : Target) (success : How → Event) (cause addr : ℕ)
-    → aimed_at script S h (Some seat) ≡ below_limit target addr
+    → aimed_at script S h (Some seat) ≡ below_limit (guests_in S seat.tvm) target addr
     → ((how : How) → guest_touched S seat (success how) ≡ Some (target, Came how))
     → cond (eqb cause 20) (fetch_target addr) (access_target addr) ≡ target
-    → Shows script S h (Some seat) (guest_touch target success cause addr)
-shows_touch script S h seat target success cause addr aims comes is = go (nat_lt addr (2 ^ 41)) refl
+    → Shows script S h (Some seat) (guest_touch (guests_in S seat.tvm) target success cause addr)
+shows_touch script S h seat target success cause addr aims comes is = go (nat_lt addr (4096 * guests_in S seat.tvm)) refl
   where
-    go : (b : Bool) → nat_lt addr (2 ^ 41) ≡ b → Shows script S h (Some seat) (cond b (Touch target success (fault_exit cause addr)) (Single (fault_exit cause addr)))
-    go true e = (aims ∙ cond-true (nat_lt addr (2 ^ 41)) (Some target) None e, (comes, missed_below cause addr target is e))
-    go false e = missed_past cause addr e
+    go : (b : Bool) → nat_lt addr (4096 * guests_in S seat.tvm) ≡ b → Shows script S h (Some seat) (cond b (Touch target success (fault_exit cause addr)) (Single (fault_exit cause addr)))
+    go true e = (aims ∙ cond-true (nat_lt addr (4096 * guests_in S seat.tvm)) (Some target) None e, (comes, missed_below (guests_in S seat.tvm) cause addr target is e))
+    go false e = missed_past (guests_in S seat.tvm) cause addr e
 
 shows_act : (S : State) (seat : Seat) (t nonce : ℕ) (act : GuestAct) (refused : Option Reply) (reply : Reply) → guest_touched S seat (act_event S t nonce act refused reply) ≡ None
 shows_act S seat t nonce acts.Evidence None reply = refl
@@ -105,13 +105,13 @@ shows_act S seat t nonce _ refused reply = refl
 shows_deed : (script : ScriptValue) (S : State) (h : ℕ) (seat : Seat) (deed : Deed) → deed_of (cpu_of S seat) ≡ deed → Shows script S h (Some seat) (deed_offer S h seat deed)
 shows_deed script S h seat Tires is = refl
 shows_deed script S h seat (Fetches addr) is =
-    shows_touch script S h seat (fetch_target addr) (λ how. Event.Fetch how) 20 addr (ap aim is)
+    shows_touch script S h seat (fetch_target addr) (λ how. Event.Fetch how) 20 addr (ap (aim (guests_in S seat.tvm)) is)
     (λ how. ap (λ a. Some (fetch_target a, Came how)) (sym (deed_place (cpu_of S seat) addr is))) refl
 shows_deed script S h seat (Executes rd value pc file) is = refl
 shows_deed script S h seat (Loads addr size signed rd) is =
-    shows_touch script S h seat (access_target addr) (λ how. Event.Access how) 21 addr (ap aim is) (λ how. ap (λ d. Some (access_target (data_address d), Came how)) is) refl
+    shows_touch script S h seat (access_target addr) (λ how. Event.Access how) 21 addr (ap (aim (guests_in S seat.tvm)) is) (λ how. ap (λ d. Some (access_target (data_address d), Came how)) is) refl
 shows_deed script S h seat (Stores addr size value) is =
-    shows_touch script S h seat (access_target addr) (λ how. Event.Access how) 23 addr (ap aim is) (λ how. ap (λ d. Some (access_target (data_address d), Came how)) is) refl
+    shows_touch script S h seat (access_target addr) (λ how. Event.Access how) 23 addr (ap (aim (guests_in S seat.tvm)) is) (λ how. ap (λ d. Some (access_target (data_address d), Came how)) is) refl
 shows_deed script S h seat (Asks act) is =
     let x = (cpu_of S seat).x in
     let r = guest_rule S h seat.tvm (register x 10) (register x 11) act in

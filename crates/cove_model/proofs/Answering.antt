@@ -1,6 +1,6 @@
 -- The answers of calls in allowed events.
-use Rattle.std.proofs.Common.{◌≡◌, ℕ, ◌^◌, Bool, true, false, cond, nat_lt, List, Option, Some, None, sym, ap, subst, ◌∙◌, inl, inr}
-use Rattle.cove_model.specs.Machine.{next_line, ScriptValue, GuestAct, HostCall, Event, How, Line, ScriptLine, Reply, Target, has, refusal_by, reply_by, reply_to, Deed, Tires, Fetches, Executes, Loads, Stores, Asks, Waits, Traps, deed_of, guest_rule, Rule, Single, Touch, access_target, act_event, cpu_of, deed_offer, fault_exit, fetch_target, first_behind, guest_touch, kicked_offer, line_offer, outside_offer, unkicked_offer, unless_behind, Seat, State, ended_by, Allows, Takes}
+use Rattle.std.proofs.Common.{◌≡◌, ℕ, ◌*◌, Bool, true, false, cond, nat_lt, List, Option, Some, None, sym, ap, subst, ◌∙◌, inl, inr}
+use Rattle.cove_model.specs.Machine.{next_line, ScriptValue, GuestAct, HostCall, Event, How, Line, ScriptLine, Reply, Target, has, refusal_by, reply_by, reply_to, Deed, Tires, Fetches, Executes, Loads, Stores, Asks, Waits, Traps, deed_of, guest_rule, Rule, Single, Touch, access_target, act_event, cpu_of, deed_offer, fault_exit, fetch_target, first_behind, guest_touch, kicked_offer, line_offer, outside_offer, unkicked_offer, unless_behind, Seat, State, ended_by, guests_in, Allows, Takes}
 use Rattle.cove_base.specs.Registers.{register}
 use Rattle.cove_base.specs.declared.calls.GuestAct.TheVariants as acts
 use Rattle.cove_base.specs.declared.events.Event.TheVariants as events
@@ -26,9 +26,9 @@ act_parts S t nonce act acts.Other refused reply answer e = (cc, cc)
 no_exit : {act : GuestAct} {reply : Reply} {exit : Exit} → events.Guest act reply ≡ events.Exit exit → ⊥
 no_exit e = cc
 
-touch_apart : (S : State) (h : ℕ) (sought : Target) (success : How → Event) (cause addr : ℕ) (act : GuestAct) (reply : Reply)
-    → ((how : How) → events.Guest act reply ≡ success how → ⊥) → Takes S h (guest_touch sought success cause addr) (events.Guest act reply) → ⊥
-touch_apart S h sought success cause addr act reply apart takes = go (nat_lt addr (2 ^ 41)) takes
+touch_apart : (S : State) (h guests : ℕ) (sought : Target) (success : How → Event) (cause addr : ℕ) (act : GuestAct) (reply : Reply)
+    → ((how : How) → events.Guest act reply ≡ success how → ⊥) → Takes S h (guest_touch guests sought success cause addr) (events.Guest act reply) → ⊥
+touch_apart S h guests sought success cause addr act reply apart takes = go (nat_lt addr (4096 * guests)) takes
   where
     go : (b : Bool) → Takes S h (cond b (Touch sought success (fault_exit cause addr)) (Single (fault_exit cause addr))) (events.Guest act reply) → ⊥
     go true (inl t) = apart t.0 t.1
@@ -38,7 +38,7 @@ touch_apart S h sought success cause addr act reply apart takes = go (nat_lt add
 deed_answer : (S : State) (h : ℕ) (seat : Seat) (deed : Deed) (act : GuestAct) (reply : Reply) → Takes S h (deed_offer S h seat deed) (events.Guest act reply)
     → reply ≡ reply_by (guest_rule S h seat.tvm (register (cpu_of S seat).x 10) (register (cpu_of S seat).x 11) act)
 deed_answer S h seat Tires act reply takes = absurd (no_exit takes)
-deed_answer S h seat (Fetches addr) act reply takes = absurd (touch_apart S h (fetch_target addr) (λ how. Event.Fetch how) 20 addr act reply (λ how. apart) takes)
+deed_answer S h seat (Fetches addr) act reply takes = absurd (touch_apart S h (guests_in S seat.tvm) (fetch_target addr) (λ how. Event.Fetch how) 20 addr act reply (λ how. apart) takes)
   where
     apart : {how : How} → events.Guest act reply ≡ events.Fetch how → ⊥
     apart e = cc
@@ -46,11 +46,11 @@ deed_answer S h seat (Executes rd value pc file) act reply takes = absurd (apart
   where
     apart : events.Guest act reply ≡ events.Exec → ⊥
     apart e = cc
-deed_answer S h seat (Loads addr size signed rd) act reply takes = absurd (touch_apart S h (access_target addr) (λ how. Event.Access how) 21 addr act reply (λ how. apart) takes)
+deed_answer S h seat (Loads addr size signed rd) act reply takes = absurd (touch_apart S h (guests_in S seat.tvm) (access_target addr) (λ how. Event.Access how) 21 addr act reply (λ how. apart) takes)
   where
     apart : {how : How} → events.Guest act reply ≡ events.Access how → ⊥
     apart e = cc
-deed_answer S h seat (Stores addr size value) act reply takes = absurd (touch_apart S h (access_target addr) (λ how. Event.Access how) 23 addr act reply (λ how. apart) takes)
+deed_answer S h seat (Stores addr size value) act reply takes = absurd (touch_apart S h (guests_in S seat.tvm) (access_target addr) (λ how. Event.Access how) 23 addr act reply (λ how. apart) takes)
   where
     apart : {how : How} → events.Guest act reply ≡ events.Access how → ⊥
     apart e = cc

@@ -1,11 +1,11 @@
 -- A legal history begins its script, and follows it, with nobody inside, where no line is left.
-use Rattle.std.proofs.Common.{◌≡◌, ℕ, suc, ◌+◌, ◌^◌, ◌<◌, ◌≤◌, Bool, true, false, cond, nat_lt, List, [], ◌∷◌, ◌++◌, length, length-take-le, take, take_all, slice_get, slice_index, replicate, Option, Some, None, option_map, refl, sym, ap, subst, ◌∙◌, inl, inr, ⊎_elim, add-one, append-nil, arith, filter_map}
+use Rattle.std.proofs.Common.{◌≡◌, ℕ, suc, ◌+◌, ◌*◌, ◌<◌, ◌≤◌, Bool, true, false, cond, nat_lt, List, [], ◌∷◌, ◌++◌, length, length-take-le, take, take_all, slice_get, slice_index, replicate, Option, Some, None, option_map, refl, sym, ap, subst, ◌∙◌, inl, inr, ⊎_elim, add-one, append-nil, arith, filter_map}
 use Rattle.std.specs.List.{cons_option}
 use Rattle.std.proofs.lemmas.Bool.{cases_eq}
 use Rattle.std.proofs.lemmas.List.{length-map, length-replicate}
 use Rattle.std.proofs.lemmas.List.Elements.{filter_map-append}
 use Rattle.std.proofs.lemmas.Option.{slice_get-map, slice_get_within}
-use Rattle.cove_model.specs.Machine.{lines_of, next_line, ScriptValue, GuestAct, Entry, Event, How, Line, ScriptLine, Reply, Target, has, refusal_by, reply_by, Deed, Tires, Fetches, Executes, Loads, Stores, Asks, Waits, Traps, deed_of, guest_rule, Follows, Legal, after, own, told, wanted, offer, Offer, Nothing, Behind, Single, Touch, access_target, act_event, cpu_of, deed_offer, fault_exit, fetch_target, first_behind, guest_touch, kicked_offer, line_offer, outside_offer, unkicked_offer, unless_behind, IsOver, Seat, State, ended_by, Allows, Takes, after_event, asked, done}
+use Rattle.cove_model.specs.Machine.{lines_of, next_line, ScriptValue, GuestAct, Entry, Event, How, Line, ScriptLine, Reply, Target, has, refusal_by, reply_by, Deed, Tires, Fetches, Executes, Loads, Stores, Asks, Waits, Traps, deed_of, guest_rule, Follows, Legal, after, own, told, wanted, offer, Offer, Nothing, Behind, Single, Touch, access_target, act_event, cpu_of, deed_offer, fault_exit, fetch_target, first_behind, guest_touch, kicked_offer, line_offer, outside_offer, unkicked_offer, unless_behind, IsOver, Seat, State, ended_by, guests_in, Allows, Takes, after_event, asked, done}
 use Rattle.cove_base.specs.Registers.{register}
 use Rattle.cove_base.specs.declared.calls.GuestAct.TheVariants as acts
 use Rattle.cove_base.specs.declared.scripts.Line.TheVariants as lines
@@ -35,8 +35,8 @@ tells_line S h (lines.Call call) = refl
 tells_line S h (lines.Load addr) = ((λ how. refl), refl)
 tells_line S h (lines.Store addr value) = ((λ how. refl), refl)
 
-tells_touch : (target : Target) (success : How → Event) (cause addr : ℕ) → ((how : How) → asked (success how) ≡ None) → Tells None (guest_touch target success cause addr)
-tells_touch target success cause addr none = go (nat_lt addr (2 ^ 41))
+tells_touch : (guests : ℕ) (target : Target) (success : How → Event) (cause addr : ℕ) → ((how : How) → asked (success how) ≡ None) → Tells None (guest_touch guests target success cause addr)
+tells_touch guests target success cause addr none = go (nat_lt addr (4096 * guests))
   where
     go : (b : Bool) → Tells None (cond b (Touch target success (fault_exit cause addr)) (Single (fault_exit cause addr)))
     go true = (none, refl)
@@ -50,10 +50,10 @@ tells_act S t nonce _ refused reply = refl
 
 tells_deed : (S : State) (h : ℕ) (seat : Seat) (deed : Deed) → Tells None (deed_offer S h seat deed)
 tells_deed S h seat Tires = refl
-tells_deed S h seat (Fetches addr) = tells_touch (fetch_target addr) (λ how. Event.Fetch how) 20 addr (λ how. refl)
+tells_deed S h seat (Fetches addr) = tells_touch (guests_in S seat.tvm) (fetch_target addr) (λ how. Event.Fetch how) 20 addr (λ how. refl)
 tells_deed S h seat (Executes rd value pc file) = refl
-tells_deed S h seat (Loads addr size signed rd) = tells_touch (access_target addr) (λ how. Event.Access how) 21 addr (λ how. refl)
-tells_deed S h seat (Stores addr size value) = tells_touch (access_target addr) (λ how. Event.Access how) 23 addr (λ how. refl)
+tells_deed S h seat (Loads addr size signed rd) = tells_touch (guests_in S seat.tvm) (access_target addr) (λ how. Event.Access how) 21 addr (λ how. refl)
+tells_deed S h seat (Stores addr size value) = tells_touch (guests_in S seat.tvm) (access_target addr) (λ how. Event.Access how) 23 addr (λ how. refl)
 tells_deed S h seat (Asks act) =
     let x = (cpu_of S seat).x in
     let r = guest_rule S h seat.tvm (register x 10) (register x 11) act in

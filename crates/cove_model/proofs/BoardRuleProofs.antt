@@ -3,7 +3,7 @@ use Rattle.std.proofs.Common.{◌≡◌, ◌≢◌, ℕ, ◌+◌, ◌<◌, ◌�
 use Rattle.std.proofs.lemmas.Bool.{cases_lt}
 use Rattle.std.proofs.lemmas.List.{get_or_past, length_push}
 use Rattle.cove_base.proofs.ScriptLimits.{Limits, limits_of}
-use Rattle.cove_model.specs.Machine.{HartValue, Holding, Inside, holding, way_of, host, IsHostWord, count_word, epoch_word, answered_word, tvm_word, all_words, ScriptValue, AllAllowed, stored, Entry, ENTRY_LIMIT, Page, Target, IsReached, WasFound, after, IsLawful, Counts, Converts, Frees, Gives, TakesBack, Removes, ChangesTable, Answers, Begins, FencesTvm, Enters, Leaves, Owner, Host, Converting, Free, Given, has, may_use, page_at, root_of, Seat, State, Allows, tlb, FencesWithin, OwnersStand, PageStands, epoch_in, answered_in, maps_of}
+use Rattle.cove_model.specs.Machine.{HartValue, Holding, Inside, holding, way_of, host, IsHostWord, count_word, epoch_word, answered_word, tvm_word, all_words, ScriptValue, AllAllowed, stored, Entry, ENTRY_LIMIT, Page, Target, IsReached, WasFound, after, IsLawful, ChangesPage, ChangesTable, Answers, Begins, FencesTvm, ChangesHart, Owner, Host, Converting, Free, Given, has, may_use, mode_in, page_at, root_of, Seat, State, Allows, tlb, FencesWithin, OwnersStand, PageStands, epoch_in, answered_in, maps_of}
 use Rattle.cove_base.specs.declared.events.Walked.{Walked}
 use Rattle.cove_base.specs.declared.events.Walked.TheVariants as walks
 use Rattle.cove_base.specs.declared.walks.Noted.{Noted}
@@ -48,18 +48,12 @@ usable_in pages harts words S h p stands may =
 
 -- it is none of the count
 beside_count : {pages harts : ℕ} {hart : ℕ} {old words : List ℕ} {place word : ℕ} → IsLawful pages harts hart old words place word → count_word pages harts ≢ place
-beside_count (Counts page before after is at was new few) = omega arith
-beside_count (Converts page is at was now new) = omega arith
-beside_count (Frees page is at free new) = omega arith
-beside_count (Gives page tvm role is low high at free new left) = omega arith
-beside_count (TakesBack page tvm role is at was new left) = omega arith
-beside_count (Removes page tvm is at was new none) = omega arith
+beside_count (ChangesPage page is at change) = omega arith
+beside_count (ChangesTable tvm page i is below at of change) = omega arith
 beside_count (Answers is at new) = omega arith
 beside_count (Begins at room new all) = omega arith
-beside_count (ChangesTable tvm page i is below at of change) = omega arith
 beside_count (FencesTvm tvm low high at room new all) = omega arith
-beside_count (Enters tvm root is low high at out new owned) = omega arith
-beside_count (Leaves tvm is at here new) = omega arith
+beside_count (ChangesHart is at change) = omega arith
 
 module _ (script : ScriptValue) (history : List Entry) (old now : List ℕ) (hart place word : ℕ) (part : IsMonitored script history old now) (bounded : AreBounded script.pages script.harts now) (lawful : IsLawful script.pages script.harts hart old now place word) where
   store_monitored : IsMonitored script history old (set now place word)
@@ -261,15 +255,17 @@ module _ (script : ScriptValue) (limits : Limits script) (history : List Entry) 
     seat = seat_of here;
     sits = fits.sits;
     root = fits.root;
+    mode = fits.mode;
     tables = λ p among. let none = among.1 in absurd (omega arith);
   }
 
-  resting_way : (h : ℕ) (o : Option Seat) → (after script history).seats h ≡ o → WayFits (after script history) h (option_map (λ (seat : Seat). record { root = root_of (after script history).pages seat.tvm; tables = [] }) o)
+  resting_way : (h : ℕ) (o : Option Seat) → (after script history).seats h ≡ o → WayFits (after script history) h (option_map (λ (seat : Seat). record { root = root_of (after script history).pages seat.tvm; mode = mode_in (after script history) seat.tvm; tables = [] }) o)
   resting_way h None sits = sits
   resting_way h (Some seat) sits = record {
     seat = seat;
     sits = sits;
     root = refl;
+    mode = refl;
     tables = λ p among. let none = among.1 in absurd (omega arith);
   }
 

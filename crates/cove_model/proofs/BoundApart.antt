@@ -3,7 +3,7 @@ use Rattle.std.proofs.Common.{◌≡◌, ℕ, ◌+◌, Bool, true, false, cond, 
 use Rattle.std.proofs.lemmas.Bool.{cases_eq, or_cases}
 use Rattle.std.proofs.lemmas.List.{map-append}
 use Rattle.std.proofs.lemmas.Option.{none-some, same_Some}
-use Rattle.cove_model.specs.Machine.{ScriptValue, HostCall, Entry, Event, after, rule, started, alter, at, dropped, left_unbinding, rebound, AreBoundApart, AreDistinct, BoundFile, cpus_of, bound_file_in, bound_file_of, Owner, has, Seat, State, board_in, new_cpu, after_event, done, line_ended, Cpu, Tvm, created, new_tvm}
+use Rattle.cove_model.specs.Machine.{ScriptValue, HostCall, Entry, Event, after, rule, started, alter, at, dropped, left_unbinding, rebound, AreBoundApart, AreDistinct, BoundFile, cpus_of, bound_file_in, bound_file_of, Owner, has, Seat, State, board_in, new_cpu, after_event, done, line_ended, Cpu, Mode, Tvm, created, new_tvm}
 use Rattle.cove_base.specs.declared.events.Exit.{Exit}
 use Rattle.cove_model.proofs.AtTheEnd.{after_push, from_end}
 use Rattle.cove_model.proofs.BoundPlaces.{place_altered, place_mapped, places_kept}
@@ -153,19 +153,19 @@ module _ (t : ℕ) (how : Tvm → Tvm) (numbers : (tvm : Tvm) → (how tvm).numb
 
 binds_one : (Calm : Type 0) (S : State) (pages : List Owner) (h : ℕ) (xs ys : List Tvm) → OneTvm Calm S pages h xs ys → Rebindings S xs ys
 binds_one Calm S pages h xs ys (NoTvm e) = AllKeep (λ u w p q. ap (λ l. place_among l u w) (sym e) ∙ q)
-binds_one Calm S pages h xs ys (Alters t how e numbers each) = subst (Rebindings S xs) (sym e) (go (at (λ (k : Tvm). k.number) t xs) refl)
+binds_one Calm S pages h xs ys (Alters t how e names each) = subst (Rebindings S xs) (sym e) (go (at (λ (k : Tvm). k.number) t xs) refl)
   where
     go : (o : Option Tvm) → at (λ k. k.number) t xs ≡ o → Rebindings S xs (alter (λ k. k.number) t how xs)
-    go None none = AllKeep (λ u w p q. sym (places_kept t how numbers xs (λ tvm x live. absurd (none-some tvm (sym none ∙ live))) u w) ∙ q)
-    go (Some tvm) live = binds_found t how numbers xs S tvm live (binds_cpus _ S h t tvm (how tvm) (each tvm).cpus)
+    go None none = AllKeep (λ u w p q. sym (places_kept t how (λ tvm. (names tvm).0) xs (λ tvm x live. absurd (none-some tvm (sym none ∙ live))) u w) ∙ q)
+    go (Some tvm) live = binds_found t how (λ tvm. (names tvm).0) xs S tvm live (binds_cpus _ S h t tvm (how tvm) (each tvm).cpus)
 
 differ_one : (Calm : Type 0) (S : State) (pages : List Owner) (h : ℕ) (xs ys : List Tvm) (u : ℕ) → OneTvm Calm S pages h xs ys → Differ xs u → Differ ys u
 differ_one Calm S pages h xs ys u (NoTvm e) d = subst (λ l. Differ l u) (sym e) d
-differ_one Calm S pages h xs ys u (Alters t how e numbers each) d = subst (λ l. Differ l u) (sym e) (⊎_elim
+differ_one Calm S pages h xs ys u (Alters t how e names each) d = subst (λ l. Differ l u) (sym e) (⊎_elim
     (λ is. subst (Differ (alter (λ (k : Tvm). k.number) t how xs)) (sym is)
-    (subst (λ (o : Option Tvm). AreDistinct (cpus_of (unwrap_or o (new_tvm t)))) (sym (at_alter_same (λ (k : Tvm). k.number) t how numbers xs))
+    (subst (λ (o : Option Tvm). AreDistinct (cpus_of (unwrap_or o (new_tvm t)))) (sym (at_alter_same (λ (k : Tvm). k.number) t how (λ tvm. (names tvm).0) xs))
     (go (at (λ (k : Tvm). k.number) t xs) refl (subst (Differ xs) is d))))
-    (λ ne. subst (λ (o : Option Tvm). AreDistinct (cpus_of (unwrap_or o (new_tvm u)))) (sym (at_alter_other (λ (k : Tvm). k.number) u t how numbers ne xs)) d)
+    (λ ne. subst (λ (o : Option Tvm). AreDistinct (cpus_of (unwrap_or o (new_tvm u)))) (sym (at_alter_other (λ (k : Tvm). k.number) u t how (λ tvm. (names tvm).0) ne xs)) d)
     (cases_eq u t))
   where
     go : (o : Option Tvm) → at (λ k. k.number) t xs ≡ o → AreDistinct (cpus_of (unwrap_or o (new_tvm t))) → AreDistinct (cpus_of (unwrap_or (option_map how o) (new_tvm t)))
@@ -176,8 +176,8 @@ differ_one Calm S pages h xs ys u (Alters t how e numbers each) d = subst (λ l.
 abbrev Comes : (xs ys : List Tvm) → Type 0
 Comes xs ys = (u : ℕ) (now : Tvm) → at (λ k. k.number) u ys ≡ Some now → (at (λ k. k.number) u xs ≡ Some now) ⊎ (now.cpus ≡ [])
 
-comes_grown : (S : State) → Comes S.tvms (S.tvms ++ created (S.made + 1) (board_in S) ∷ [])
-comes_grown S u now found = ⊎_elim inl (λ new. inr (ap (λ (k : Tvm). k.cpus) new.1.0)) (found_last u S.tvms (created (S.made + 1) (board_in S)) now found)
+comes_grown : (S : State) (mode : Mode) → Comes S.tvms (S.tvms ++ created (S.made + 1) mode (board_in S) ∷ [])
+comes_grown S mode u now found = ⊎_elim inl (λ new. inr (ap (λ (k : Tvm). k.cpus) new.1.0)) (found_last u S.tvms (created (S.made + 1) mode (board_in S)) now found)
 
 comes_lost : (t : ℕ) (xs : List Tvm) → Comes xs (dropped (λ k. eqb k.number t) xs)
 comes_lost t xs u now found = inl (found_kept t u xs now found)
@@ -209,13 +209,13 @@ binds_tvms Calm S T h (Twice made mid one two bound) = go (binds_one Calm S T.pa
     go : Rebindings S S.tvms mid → Rebindings S S.tvms T.tvms
     go (AllKeep keep) = AllKeep (λ u w p e. keep u w p (sym (bound u w) ∙ e))
     go (OneTakes t v place nobody takes) = OneTakes t v place nobody (λ u w p e. takes u w p (sym (bound u w) ∙ e))
-binds_tvms Calm S T h (Grows made e) = subst (Rebindings S S.tvms) (sym e) (places_come S S.tvms _ (comes_grown S))
+binds_tvms Calm S T h (Grows mode made e) = subst (Rebindings S S.tvms) (sym e) (places_come S S.tvms _ (comes_grown S mode))
 binds_tvms Calm S T h (Loses t made e pages nobody restless) = subst (Rebindings S S.tvms) (sym e) (places_come S S.tvms _ (comes_lost t S.tvms))
 
 differ_tvms : (Calm : Type 0) (S T : State) (h u : ℕ) → TvmsChange Calm S T h → Differ S.tvms u → Differ T.tvms u
 differ_tvms Calm S T h u (Once made one) d = differ_one Calm S T.pages h S.tvms T.tvms u one d
 differ_tvms Calm S T h u (Twice made mid one two bound) d = differ_one Calm S T.pages h mid T.tvms u two (differ_one Calm S T.pages h S.tvms mid u one d)
-differ_tvms Calm S T h u (Grows made e) d = subst (λ l. Differ l u) (sym e) (differ_come S.tvms _ u (comes_grown S) d)
+differ_tvms Calm S T h u (Grows mode made e) d = subst (λ l. Differ l u) (sym e) (differ_come S.tvms _ u (comes_grown S mode) d)
 differ_tvms Calm S T h u (Loses t made e pages nobody restless) d = subst (λ l. Differ l u) (sym e) (differ_come S.tvms _ u (comes_lost t S.tvms) d)
 
 -- ---- every event

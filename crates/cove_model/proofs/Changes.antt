@@ -8,7 +8,7 @@ use Rattle.std.proofs.lemmas.List.{length-replicate, map-append}
 use Rattle.std.proofs.lemmas.List.FromFn.{length-map-range_with_len}
 use Rattle.cove_base.specs.Ranges.{is_outside}
 use Rattle.cove_base.specs.Measurement.{Record, VcpuRecord, FinalizeRecord}
-use Rattle.cove_model.specs.Machine.{HostCall, Convert, Create, Region, Tables, Measured, Finalize, Zero, Shared, Run, Invalidate, TvmFence, Validate, Remove, Destroy, Bind, Unbind, Unbound, Inject, is_at, is_mapped_by, remembered, is_among, page_run, page_records, rule, started, page_words_from, alter, at, dropped, blocked_standing, fenced_standing, fenced_unbinding, is_fenced, left_unbinding, mapping_of, may_follow, own_mappings, rebound, restood, shared_mappings, unblocked_standing, AreDistinct, BoundFile, guests_of, bound_file_in, bound_file_of, Owner, every, has, is_free, is_host, page_at, without, words_of, zeros, freed, IsSeated, IsStill, IsHeldWithin, IsSound, IsSoundMapping, IsSoundTvm, Seat, State, board_in, find_cpu, find_tvm, harts_inside, new_cpu, on_cpu, tvm_at, left_by, Begun, Binding, Mapping, Standing, Unbinding, Cpu, Tvm, created, new_tvm}
+use Rattle.cove_model.specs.Machine.{HostCall, Convert, Create, Region, Tables, Measured, Finalize, Zero, Shared, Run, Invalidate, TvmFence, Validate, Remove, Destroy, Bind, Unbind, Unbound, Inject, is_at, is_mapped_by, remembered, is_among, page_run, page_records, rule, started, page_words_from, alter, at, dropped, blocked_standing, fenced_standing, fenced_unbinding, is_fenced, left_unbinding, mapping_of, may_follow, own_mappings, rebound, restood, shared_mappings, unblocked_standing, AreDistinct, BoundFile, guests_of, bound_file_in, bound_file_of, Owner, every, has, is_free, is_host, page_at, without, words_of, zeros, freed, IsSeated, IsStill, IsHeldWithin, IsSound, IsSoundMapping, IsSoundTvm, Seat, State, board_in, find_cpu, find_tvm, harts_inside, new_cpu, on_cpu, tvm_at, left_by, Begun, Binding, Mapping, Standing, Unbinding, Cpu, Mode, Tvm, created, mode_of, new_tvm}
 use Rattle.cove_base.specs.declared.calls.HostCall.TheVariants.{Vcpu}
 use Rattle.cove_base.specs.declared.events.Exit.{Exit}
 use Rattle.cove_model.proofs.CheckedRuns.{all_hosts, host_words, length_words, memory_given, not_false, zeros_all}
@@ -77,10 +77,14 @@ pub record TvmChange (Calm Found : Type 0) (S : State) (pages : List Owner) (h t
 
 -- ---- what happens to the live TVMs
 
+-- a change keeps the number of a TVM, and its mode
+abbrev pub KeepsName : (how : Tvm → Tvm) → Type 0
+KeepsName how = (tvm : Tvm) → ((how tvm).number ≡ tvm.number) × ((how tvm).mode ≡ tvm.mode)
+
 -- one of them is changed, or none
 pub data OneTvm (Calm : Type 0) (S : State) (pages : List Owner) (h : ℕ) (xs ys : List Tvm) : Type 0 where
   NoTvm : ys ≡ xs → OneTvm Calm S pages h xs ys
-  Alters : (t : ℕ) (how : Tvm → Tvm) → ys ≡ alter (λ k. k.number) t how xs → ((tvm : Tvm) → (how tvm).number ≡ tvm.number)
+  Alters : (t : ℕ) (how : Tvm → Tvm) → ys ≡ alter (λ k. k.number) t how xs → KeepsName how
       → ((tvm : Tvm) → TvmChange Calm (at (λ k. k.number) t xs ≡ Some tvm) S pages h t tvm (how tvm)) → OneTvm Calm S pages h xs ys
 
 -- where a vCPU is bound, by the vCPUs of a TVM and by the live TVMs
@@ -95,7 +99,7 @@ pub data TvmsChange (Calm : Type 0) (S T : State) (h : ℕ) : Type 0 where
   Once : T.made ≡ S.made → OneTvm Calm S T.pages h S.tvms T.tvms → TvmsChange Calm S T h
   Twice : T.made ≡ S.made → (mid : List Tvm) → OneTvm Calm S T.pages h S.tvms mid → OneTvm Calm S T.pages h mid T.tvms → ((u w : ℕ) → place_among T.tvms u w ≡ place_among mid u w)
       → TvmsChange Calm S T h
-  Grows : T.made ≡ S.made + 1 → T.tvms ≡ S.tvms ++ created (S.made + 1) (board_in S) ∷ [] → TvmsChange Calm S T h
+  Grows : (mode : Mode) → T.made ≡ S.made + 1 → T.tvms ≡ S.tvms ++ created (S.made + 1) mode (board_in S) ∷ [] → TvmsChange Calm S T h
   Loses : (t : ℕ) → T.made ≡ S.made → T.tvms ≡ dropped (λ k. eqb k.number t) S.tvms → T.pages ≡ map (freed t) S.pages → harts_inside S t ≡ [] → (Calm → ⊥)
       → TvmsChange Calm S T h
 
@@ -115,14 +119,14 @@ module _ (Calm Found : Type 0) (S : State) (pages : List Owner) (h t : ℕ) (tvm
   recpus runs records mappings cpus = record { measures = Unmeasured runs records; maps = Unmapped mappings; cpus = cpus }
 
 -- a change of one TVM; one of a vCPU of it, which no hart need run still
-alters : (S T : State) (h t : ℕ) (how : Tvm → Tvm) → T.made ≡ S.made → T.tvms ≡ alter (λ k. k.number) t how S.tvms → ((tvm : Tvm) → (how tvm).number ≡ tvm.number)
+alters : (S T : State) (h t : ℕ) (how : Tvm → Tvm) → T.made ≡ S.made → T.tvms ≡ alter (λ k. k.number) t how S.tvms → KeepsName how
     → ((tvm : Tvm) → TvmChange ⊥ (find_tvm S t ≡ Some tvm) S T.pages h t tvm (how tvm)) → TvmsChange ⊥ S T h
-alters S T h t how made tvms numbers each = Once made (Alters t how tvms numbers each)
+alters S T h t how made tvms names each = Once made (Alters t how tvms names each)
 
 alters_cpu : (S T : State) (h t v : ℕ) (how : Cpu → Cpu) → T.made ≡ S.made → T.tvms ≡ alter (λ k. k.number) t (on_cpu v how) S.tvms → ((cpu : Cpu) → (how cpu).number ≡ cpu.number)
     → Spares S h t v how → Binds S how → TvmsChange ⊥ S T h
 alters_cpu S T h t v how made tvms numbers spares binds =
-    alters S T h t (on_cpu v how) made tvms (λ tvm. refl) (λ tvm. recpus ⊥ (find_tvm S t ≡ Some tvm) S T.pages h t tvm (on_cpu v how tvm) refl refl refl (OnCpu v how refl numbers spares binds))
+    alters S T h t (on_cpu v how) made tvms (λ tvm. (refl, refl)) (λ tvm. recpus ⊥ (find_tvm S t ≡ Some tvm) S T.pages h t tvm (on_cpu v how tvm) refl refl refl (OnCpu v how refl numbers spares binds))
 
 -- no TVM
 pub stays : (S T : State) (h : ℕ) → T.made ≡ S.made → T.tvms ≡ S.tvms → TvmsChange ⊥ S T h
@@ -234,16 +238,16 @@ not_taken S hart file none u w = go (find_tvm S u) refl
 
 pub change_call : (S : State) (h : ℕ) (call : HostCall) → Passed (rule S h call).checks → TvmsChange ⊥ S (outcome_state S h call) h
 change_call S h (Convert base n) ok = stays S (outcome_state S h (Convert base n)) h refl refl
-change_call S h (Create root state) ok = Grows refl refl
-change_call S h (Region t gpa len) ok = alters S (outcome_state S h (Region t gpa len)) h t _ refl refl (λ tvm. refl) (λ tvm. unread ⊥ (find_tvm S t ≡ Some tvm) S _ h t tvm _ refl refl refl refl)
-change_call S h (Tables t base n) ok = alters S (outcome_state S h (Tables t base n)) h t _ refl refl (λ tvm. refl) (λ tvm. unread ⊥ (find_tvm S t ≡ Some tvm) S _ h t tvm _ refl refl refl refl)
+change_call S h (Create root state) ok = Grows (mode_of root) refl refl
+change_call S h (Region t gpa len) ok = alters S (outcome_state S h (Region t gpa len)) h t _ refl refl (λ tvm. (refl, refl)) (λ tvm. unread ⊥ (find_tvm S t ≡ Some tvm) S _ h t tvm _ refl refl refl refl)
+change_call S h (Tables t base n) ok = alters S (outcome_state S h (Tables t base n)) h t _ refl refl (λ tvm. (refl, refl)) (λ tvm. unread ⊥ (find_tvm S t ≡ Some tvm) S _ h t tvm _ refl refl refl refl)
 change_call S h (Measured t src dst n gpa) ok =
     let T = outcome_state S h (Measured t src dst n gpa) in
     let contents = page_words_from S src n in
     let size = length_words S (src / 4096) n in
     let new = own_mappings (gpa / 4096) (dst / 4096) contents in
     let runs = measured_passed S h t src dst n gpa ok in
-    alters S T h t _ refl refl (λ tvm. refl) (λ tvm. record {
+    alters S T h t _ refl refl (λ tvm. (refl, refl)) (λ tvm. record {
       measures = Parts (page_records gpa contents) (λ live. building_found S t tvm live runs.building) refl refl (pages_recorded gpa contents);
       maps = Adds new refl
           (λ live. mapped_apart S t tvm gpa n new live runs.unmapped
@@ -255,13 +259,13 @@ change_call S h (Measured t src dst n gpa) ok =
     })
 change_call S h (Vcpu t v state) ok =
     let T = outcome_state S h (Vcpu t v state) in
-    alters S T h t _ refl refl (λ tvm. refl) (λ tvm. record {
+    alters S T h t _ refl refl (λ tvm. (refl, refl)) (λ tvm. record {
       measures = Parts (VcpuRecord v ∷ []) (λ live. building_found S t tvm live ok.1.0) refl refl (tt, tt);
       maps = Unmapped refl;
       cpus = AddsCpu v refl (λ live. ap (λ (o : Option Tvm). is_some (find_cpu (unwrap_or o (new_tvm t)) v)) (sym live) ∙ ok.1.1.1.0);
     })
 change_call S h (Finalize t pc arg) ok =
-    alters S (outcome_state S h (Finalize t pc arg)) h t _ refl refl (λ tvm. refl) (λ tvm.
+    alters S (outcome_state S h (Finalize t pc arg)) h t _ refl refl (λ tvm. (refl, refl)) (λ tvm.
     let built : find_tvm S t ≡ Some tvm → tvm.runnable ≡ false = λ live. building_found S t tvm live ok.1.0 in
     record { measures = Finalizes pc arg built refl refl; maps = Unmapped refl; cpus = Starts pc arg built refl })
 change_call S h (Zero t base n gpa) ok =
@@ -269,7 +273,7 @@ change_call S h (Zero t base n gpa) ok =
     let size = length-replicate {A = List ℕ} n zeros in
     let new = own_mappings (gpa / 4096) (base / 4096) (replicate n zeros) in
     let run = zero_passed S h t base n gpa ok in
-    alters S T h t _ refl refl (λ tvm. refl) (λ tvm. remaps ⊥ (find_tvm S t ≡ Some tvm) S T.pages h t tvm _ refl refl refl
+    alters S T h t _ refl refl (λ tvm. (refl, refl)) (λ tvm. remaps ⊥ (find_tvm S t ≡ Some tvm) S T.pages h t tvm _ refl refl refl
     (Adds new refl
     (λ live. mapped_apart S t tvm gpa n new live run.unmapped (pages_own (gpa / 4096) (base / 4096) (replicate n zeros) ∙ ap (range_with_len (gpa / 4096)) size))
     (λ sound. own_sound T.pages (harts_inside S t) t (gpa / 4096) (base / 4096) (replicate n zeros)
@@ -278,7 +282,7 @@ change_call S h (Shared t base n gpa) ok =
     let T = outcome_state S h (Shared t base n gpa) in
     let new = shared_mappings (gpa / 4096) (base / 4096) n in
     let run = shared_passed S h t base n gpa ok in
-    alters S T h t _ refl refl (λ tvm. refl) (λ tvm. remaps ⊥ (find_tvm S t ≡ Some tvm) S T.pages h t tvm _ refl refl refl
+    alters S T h t _ refl refl (λ tvm. (refl, refl)) (λ tvm. remaps ⊥ (find_tvm S t ≡ Some tvm) S T.pages h t tvm _ refl refl refl
     (Adds new refl
     (λ live. mapped_apart S t tvm gpa n new live run.unmapped (pages_shared (gpa / 4096) (base / 4096) n))
     (λ sound. shared_sound T.pages (harts_inside S t) t (gpa / 4096) (base / 4096) n
@@ -288,20 +292,20 @@ change_call S h (Run t v fuel) ok =
     (λ seated below x seat lt sits ne is it cpu. absurd (none_runs S x t v seat lt sits ok.1.1.1.1.0 is it)) (StaysBound (λ cpu. refl))
 change_call S h (Invalidate t gpa n) ok =
     let inside = harts_inside S t in
-    alters S (outcome_state S h (Invalidate t gpa n)) h t _ refl refl (λ tvm. refl) (λ tvm. remaps ⊥ (find_tvm S t ≡ Some tvm) S _ h t tvm _ refl refl refl
+    alters S (outcome_state S h (Invalidate t gpa n)) h t _ refl refl (λ tvm. (refl, refl)) (λ tvm. remaps ⊥ (find_tvm S t ≡ Some tvm) S _ h t tvm _ refl refl refl
     (Restands (is_among gpa n) (blocked_standing inside) refl (λ calm. calm) (λ x here. blocked_follows x inside (has_with h x inside here)) (blocked_sound inside inside (λ k e. e))))
 change_call S h (TvmFence t) ok =
     let inside = harts_inside S t in
-    alters S (outcome_state S h (TvmFence t)) h t _ refl refl (λ tvm. refl) (λ tvm. record {
+    alters S (outcome_state S h (TvmFence t)) h t _ refl refl (λ tvm. (refl, refl)) (λ tvm. record {
       measures = Unmeasured refl refl;
       maps = Restands (λ g. true) (fenced_standing inside) refl (λ calm. calm) (λ x here. fenced_follows x inside) (fenced_sound inside);
       cpus = Rebinds (fenced_unbinding inside) refl;
     })
 change_call S h (Validate t gpa n) ok =
-    alters S (outcome_state S h (Validate t gpa n)) h t _ refl refl (λ tvm. refl) (λ tvm. remaps ⊥ (find_tvm S t ≡ Some tvm) S _ h t tvm _ refl refl refl
+    alters S (outcome_state S h (Validate t gpa n)) h t _ refl refl (λ tvm. (refl, refl)) (λ tvm. remaps ⊥ (find_tvm S t ≡ Some tvm) S _ h t tvm _ refl refl refl
     (Restands (is_among gpa n) unblocked_standing refl (λ calm. calm) (λ x here s q. refl) (λ s held. tt)))
 change_call S h (Remove t gpa n) ok =
-    alters S (outcome_state S h (Remove t gpa n)) h t _ refl refl (λ tvm. refl) (λ tvm. remaps ⊥ (find_tvm S t ≡ Some tvm) S _ h t tvm _ refl refl refl
+    alters S (outcome_state S h (Remove t gpa n)) h t _ refl refl (λ tvm. (refl, refl)) (λ tvm. remaps ⊥ (find_tvm S t ≡ Some tvm) S _ h t tvm _ refl refl refl
     (Drops (is_among gpa n) refl (λ calm. calm) (λ live. fenced_run S t tvm gpa n live ok)))
 change_call S h (Destroy t) ok = Loses t refl refl refl (none_left (harts_inside S t) ok.1.0) (λ calm. calm)
 change_call S h (Bind t v hart file) ok =

@@ -79,35 +79,38 @@ stay_then R then v one two three first second cpu found is =
 pub record StaysAt (R : Cpu → Cpu → Type 0) (u v : ℕ) (xs ys : List Tvm) (tvm : Tvm) : Type 0 where
   pub now : Tvm
   pub live : at (λ (t : Tvm). t.number) u ys ≡ Some now
+  pub mode : now.mode ≡ tvm.mode
   pub stay : AllStay R v tvm now
 
 abbrev pub TvmStays : (R : Cpu → Cpu → Type 0) (u v : ℕ) (xs ys : List Tvm) → Type 0
 TvmStays R u v xs ys = (tvm : Tvm) → at (λ (t : Tvm). t.number) u xs ≡ Some tvm → StaysAt R u v xs ys tvm
 
 -- one TVM is changed: this one, or another
-pub tvm_altered : (R : Cpu → Cpu → Type 0) → ((cpu : Cpu) → R cpu cpu) → (u v t : ℕ) (how : Tvm → Tvm) → ((tvm : Tvm) → (how tvm).number ≡ tvm.number)
+pub tvm_altered : (R : Cpu → Cpu → Type 0) → ((cpu : Cpu) → R cpu cpu) → (u v t : ℕ) (how : Tvm → Tvm) → ((tvm : Tvm) → (how tvm).number ≡ tvm.number) → ((tvm : Tvm) → (how tvm).mode ≡ tvm.mode)
     → (xs : List Tvm) → (u ≡ t → (tvm : Tvm) → at (λ (k : Tvm). k.number) t xs ≡ Some tvm → AllStay R v tvm (how tvm)) → TvmStays R u v xs (alter (λ (k : Tvm). k.number) t how xs)
-tvm_altered R refl_R u v t how numbers xs each tvm live = ⊎_elim
+tvm_altered R refl_R u v t how numbers modes xs each tvm live = ⊎_elim
     (λ same. record {
       now = how tvm;
       live = ap (λ k. at (λ (x : Tvm). x.number) u (alter (λ (x : Tvm). x.number) k how xs)) (sym same) ∙ at_alter_same (λ (x : Tvm). x.number) u how numbers xs ∙ ap (option_map how) live;
+      mode = modes tvm;
       stay = each same tvm (ap (λ k. at (λ (x : Tvm). x.number) k xs) (sym same) ∙ live);
     })
     (λ ne. record {
       now = tvm;
       live = at_alter_other (λ (x : Tvm). x.number) u t how numbers ne xs ∙ live;
+      mode = refl;
       stay = stay_same R refl_R v tvm tvm refl (λ e. e);
     })
     (cases_eq u t)
 
 pub tvm_stays : (R : Cpu → Cpu → Type 0) → ((cpu : Cpu) → R cpu cpu) → (u v : ℕ) (xs : List Tvm) → TvmStays R u v xs xs
-tvm_stays R refl_R u v xs tvm live = record { now = tvm; live = live; stay = stay_same R refl_R v tvm tvm refl (λ e. e) }
+tvm_stays R refl_R u v xs tvm live = record { now = tvm; live = live; mode = refl; stay = stay_same R refl_R v tvm tvm refl (λ e. e) }
 
 pub tvm_then : (R : Cpu → Cpu → Type 0) → ((one two three : Cpu) → R one two → R two three → R one three) → (u v : ℕ) (xs ys zs : List Tvm) → TvmStays R u v xs ys → TvmStays R u v ys zs → TvmStays R u v xs zs
 tvm_then R then u v xs ys zs first second tvm live =
     let a = first tvm live in
     let b = second a.now a.live in
-    record { now = b.now; live = b.live; stay = stay_then R then v tvm a.now b.now a.stay b.stay }
+    record { now = b.now; live = b.live; mode = b.mode ∙ a.mode; stay = stay_then R then v tvm a.now b.now a.stay b.stay }
 
 -- ---- who runs a vCPU
 

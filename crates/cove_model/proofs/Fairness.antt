@@ -1,10 +1,10 @@
 -- What a hart's event looked for is what it was offered: a success may be, and a fault did not find it.
-use Rattle.std.proofs.Common.{◌≡◌, ℕ, ◌^◌, ◌≤◌, Bool, true, false, cond, eqb, nat_lt, Option, Some, None, refl, sym, ap, subst, ◌∙◌, inl, inr, ◌⊎◌, arith, ltb-false, true≢false}
+use Rattle.std.proofs.Common.{◌≡◌, ℕ, ◌*◌, ◌≤◌, Bool, true, false, cond, eqb, nat_lt, Option, Some, None, refl, sym, ap, subst, ◌∙◌, inl, inr, ◌⊎◌, arith, ltb-false, true≢false}
 use Rattle.std.specs.Option.{option_map_or}
 use Rattle.std.specs.Prelude.{is_some}
 use Rattle.std.proofs.lemmas.Bool.{le-ltb}
 use Rattle.cove_base.specs.Executions.{plan}
-use Rattle.cove_model.specs.Machine.{next_line, ScriptValue, GuestAct, Event, How, Line, ScriptLine, Reply, Target, has, page_of, Seat, State, ended_by, refusal_by, reply_by, Deed, Tires, Fetches, Executes, Loads, Stores, Asks, Waits, Traps, csr_deed, deed_of, deed_with, is_woken, next_place, planned, guest_rule, Single, Touch, access_target, act_event, cpu_of, deed_offer, fault_exit, fetch_target, first_behind, guest_touch, is_found, kicked_offer, line_offer, may_succeed, outside_offer, unkicked_offer, unless_behind, Allows, Takes, Came, Failed, Touched, data_address, guest_touched, host_touched, missed, touched, touched_at, Cpu}
+use Rattle.cove_model.specs.Machine.{next_line, ScriptValue, GuestAct, Event, How, Line, ScriptLine, Reply, Target, has, page_of, Seat, State, ended_by, guests_in, refusal_by, reply_by, Deed, Tires, Fetches, Executes, Loads, Stores, Asks, Waits, Traps, csr_deed, deed_of, deed_with, is_woken, next_place, planned, guest_rule, Single, Touch, access_target, act_event, cpu_of, deed_offer, fault_exit, fetch_target, first_behind, guest_touch, is_found, kicked_offer, line_offer, may_succeed, outside_offer, unkicked_offer, unless_behind, Allows, Takes, Came, Failed, Touched, data_address, guest_touched, host_touched, missed, touched, touched_at, Cpu}
 use Rattle.cove_base.specs.Instructions.{decoded}
 use Rattle.cove_base.specs.Registers.{register}
 use Rattle.cove_base.specs.declared.calls.GuestAct.TheVariants as acts
@@ -82,30 +82,30 @@ deed_place cpu addr e = latched cpu.latched e
     latched (Some word) q = known (decoded word) q
 
 -- a fault below the limit of guest addresses looked for its page, and one past it for none
-fair_missed : (S : State) (h cause addr : ℕ) (sought : Target) → cond (eqb cause 20) (fetch_target addr) (access_target addr) ≡ sought
-    → (nat_lt addr (2 ^ 41) ≡ false) ⊎ (is_found S h sought ≡ false) → IsFair S h (missed cause (record { 0 = page_of addr }))
-fair_missed S h cause addr sought is why = go (nat_lt (page_of addr) (2 ^ 29)) refl why
+fair_missed : (S : State) (h guests cause addr : ℕ) (sought : Target) → cond (eqb cause 20) (fetch_target addr) (access_target addr) ≡ sought
+    → (nat_lt addr (4096 * guests) ≡ false) ⊎ (is_found S h sought ≡ false) → IsFair S h (missed guests cause (record { 0 = page_of addr }))
+fair_missed S h guests cause addr sought is why = go (nat_lt (page_of addr) guests) refl why
   where
-    go : (b : Bool) → nat_lt (page_of addr) (2 ^ 29) ≡ b → (nat_lt addr (2 ^ 41) ≡ false) ⊎ (is_found S h sought ≡ false)
+    go : (b : Bool) → nat_lt (page_of addr) guests ≡ b → (nat_lt addr (4096 * guests) ≡ false) ⊎ (is_found S h sought ≡ false)
         → IsFair S h (cond b (Some (cond (eqb cause 20) (fetch_target addr) (access_target addr), Failed)) None)
     go false e w = tt
     go true e (inr absent) = ap (is_found S h) is ∙ absent
     go true e (inl past) =
-        let high : 2 ^ 41 ≤ addr = ltb-false addr (2 ^ 41) past in
-        let low : nat_lt (page_of addr) (2 ^ 29) ≡ false = le-ltb (page_of addr) (2 ^ 29) (omega arith) in
+        let high : 4096 * guests ≤ addr = ltb-false addr (4096 * guests) past in
+        let low : nat_lt (page_of addr) guests ≡ false = le-ltb (page_of addr) guests (omega arith) in
         absurd (true≢false (sym e ∙ low))
 
 fair_exit : (S : State) (h : ℕ) (seat : Seat) (cause addr : ℕ) (sought : Target) → cond (eqb cause 20) (fetch_target addr) (access_target addr) ≡ sought
-    → (nat_lt addr (2 ^ 41) ≡ false) ⊎ (is_found S h sought ≡ false) → (event : Event) → event ≡ fault_exit cause addr → IsFair S h (guest_touched S seat event)
-fair_exit S h seat cause addr sought is why event e = subst (λ x. IsFair S h (guest_touched S seat x)) (sym e) (fair_missed S h cause addr sought is why)
+    → (nat_lt addr (4096 * guests_in S seat.tvm) ≡ false) ⊎ (is_found S h sought ≡ false) → (event : Event) → event ≡ fault_exit cause addr → IsFair S h (guest_touched S seat event)
+fair_exit S h seat cause addr sought is why event e = subst (λ x. IsFair S h (guest_touched S seat x)) (sym e) (fair_missed S h (guests_in S seat.tvm) cause addr sought is why)
 
 fair_touch : (S : State) (h : ℕ) (seat : Seat) (sought : Target) (success : How → Event) (cause addr : ℕ)
     → ((how : How) → guest_touched S seat (success how) ≡ Some (sought, Came how))
     → cond (eqb cause 20) (fetch_target addr) (access_target addr) ≡ sought
-    → (event : Event) → Takes S h (guest_touch sought success cause addr) event → IsFair S h (guest_touched S seat event)
-fair_touch S h seat sought success cause addr comes is event takes = go (nat_lt addr (2 ^ 41)) refl takes
+    → (event : Event) → Takes S h (guest_touch (guests_in S seat.tvm) sought success cause addr) event → IsFair S h (guest_touched S seat event)
+fair_touch S h seat sought success cause addr comes is event takes = go (nat_lt addr (4096 * guests_in S seat.tvm)) refl takes
   where
-    go : (b : Bool) → nat_lt addr (2 ^ 41) ≡ b → Takes S h (cond b (Touch sought success (fault_exit cause addr)) (Single (fault_exit cause addr))) event → IsFair S h (guest_touched S seat event)
+    go : (b : Bool) → nat_lt addr (4096 * guests_in S seat.tvm) ≡ b → Takes S h (cond b (Touch sought success (fault_exit cause addr)) (Single (fault_exit cause addr))) event → IsFair S h (guest_touched S seat event)
     go true e (inl t) = subst (λ x. IsFair S h (guest_touched S seat x)) (sym t.1) (subst (IsFair S h) (sym (comes t.0)) t.2)
     go true e (inr t) = fair_exit S h seat cause addr sought is (inr t.1) event t.0
     go false e t = fair_exit S h seat cause addr sought is (inl e) event t

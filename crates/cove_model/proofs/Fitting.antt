@@ -13,7 +13,7 @@ use Rattle.cove_base.specs.declared.walks.Target.TheVariants as targets
 use Rattle.cove_model.proofs.AtTheEnd.{own_alone, tlb_other, tlb_same}
 use Rattle.cove_model.proofs.Members.{has_filled}
 use Rattle.cove_model.proofs.Playing.{aimed_other, was_longer}
-use Rattle.cove_model.proofs.Running.{ended_apart, seat_apart, still_since}
+use Rattle.cove_model.proofs.Running.{ended_apart, mode_apart, seat_apart, still_since}
 use Rattle.cove_model.proofs.Ways.{root_apart}
 use Rattle.cove_model.specs.BoardRule.{FindsPage, HasFound}
 use Rattle.cove_model.specs.Fits.{Fits, InsideFits, IsSought, UnusedFits, WalkFits, WasLed, ring_of, rings_of, seat_of, walked_rings}
@@ -49,6 +49,7 @@ module _ (script : ScriptValue) (limits : Limits script) (H : List Entry) (e : E
       record {
         sits = seat_apart script H e h ne ∙ fits.sits;
         root = root_apart script limits H e front h on ne (seat_of here) fits.sits ∙ fits.root;
+        mode = mode_apart script limits H e h (seat_of here) on fits.sits front ∙ fits.mode;
         x = still.x ∙ fits.x;
         pc = still.pc ∙ fits.pc;
         latched = still.latched ∙ fits.latched;

@@ -7,7 +7,7 @@ use Rattle.cove_model.specs.Machine.{GuestAct, Event, Reply, refusal, refusal_by
 use Rattle.cove_base.specs.declared.calls.GuestAct.TheVariants as acts
 use Rattle.cove_base.specs.declared.events.Event.TheVariants as events
 use Rattle.cove_base.specs.declared.events.Exit.{Exit}
-use Rattle.cove_model.proofs.Changes.{Alters, Leaves, StaysBound, NoTvm, Once, OnCpu, OneTvm, Restands, Rewords, Spares, TvmChange, TvmsChange, Twice, Unmeasured, change_call, recpus, remaps, stays, stopped_by, unread}
+use Rattle.cove_model.proofs.Changes.{Alters, KeepsName, Leaves, StaysBound, NoTvm, Once, OnCpu, OneTvm, Restands, Rewords, Spares, TvmChange, TvmsChange, Twice, Unmeasured, change_call, recpus, remaps, stays, stopped_by, unread}
 use Rattle.cove_model.proofs.BoundPlaces.{places_altered}
 use Rattle.cove_model.proofs.CallFrames.{Framed, framed}
 use Rattle.cove_model.proofs.Keeping.{blocked_follows, left_follows}
@@ -52,14 +52,14 @@ nothing_yet : (Calm : Type 0) (S : State) (h : ℕ) → Midway Calm S S h
 nothing_yet Calm S h = record { framed = framed S; made = refl; seats = refl; wrote = λ p. Left refl refl; one = λ pages. NoTvm refl }
 
 -- one TVM is changed
-one_yet : (Calm : Type 0) (S : State) (h t : ℕ) (how : Tvm → Tvm) → ((tvm : Tvm) → (how tvm).number ≡ tvm.number)
+one_yet : (Calm : Type 0) (S : State) (h t : ℕ) (how : Tvm → Tvm) → KeepsName how
     → ((pages : List Owner) (tvm : Tvm) → TvmChange Calm (find_tvm S t ≡ Some tvm) S pages h t tvm (how tvm)) → Midway Calm S (on_tvm t how S) h
-one_yet Calm S h t how numbers each = record {
+one_yet Calm S h t how names each = record {
   framed = record { harts = refl; files = refl; key = refl; ended = refl; size = refl };
   made = refl;
   seats = refl;
   wrote = λ p. Left refl refl;
-  one = λ pages. Alters t how refl numbers (each pages);
+  one = λ pages. Alters t how refl names (each pages);
 }
 
 -- the own vCPU of a hart is another hart's on no account
@@ -74,7 +74,7 @@ goes_on Calm S M h seat how sits numbers bound mid = record {
   seat = Stays mid.seats;
   wrote = λ p. wrote p (mid.wrote p);
   tvms = Twice mid.made M.tvms (mid.one M.pages)
-      (Alters seat.tvm (on_cpu seat.cpu how) refl (λ tvm. refl)
+      (Alters seat.tvm (on_cpu seat.cpu how) refl (λ tvm. (refl, refl))
       (λ tvm. recpus Calm _ S M.pages h seat.tvm tvm (on_cpu seat.cpu how tvm) refl refl refl (OnCpu seat.cpu how refl numbers (own_spares S h seat how sits) (StaysBound places))))
       (λ u w. places_altered seat.tvm seat.cpu how numbers places M.tvms u w);
 }
@@ -92,7 +92,7 @@ stored_yet : (Calm : Type 0) (S : State) (h t addr word : ℕ) → Midway Calm S
 stored_yet Calm S h t addr word = go (mapping_of (tvm_at S t) (page_of addr))
   where
     under : (b : Backing) → Midway Calm S (stored_under S t addr word b) h
-    under (OwnPage page words) = one_yet Calm S h t _ (λ tvm. refl) (λ pages tvm. remaps Calm _ S pages h t tvm _ refl refl refl
+    under (OwnPage page words) = one_yet Calm S h t _ (λ tvm. (refl, refl)) (λ pages tvm. remaps Calm _ S pages h t tvm _ refl refl refl
         (Rewords (page_of addr) (λ ws. slice_set ws (word_place addr) word) refl (λ ws. length-set ws (word_place addr) word)))
     under (HostPage page) = record {
       framed = record { harts = refl; files = refl; key = refl; ended = refl; size = length_change (word_stored (word_place addr) word) page 1 S.pages };
@@ -137,20 +137,20 @@ blocking_yet : (Calm : Type 0) (S : State) (h t gpa n : ℕ) (shared : List ℕ)
     → Midway Calm S (on_tvm t (λ tvm. record tvm { shared = shared; mappings = map (restand (is_among gpa n) (blocked_standing (without h (harts_inside S t)))) tvm.mappings }) S) h
 blocking_yet Calm S h t gpa n shared restless =
     let others = without h (harts_inside S t) in
-    one_yet Calm S h t _ (λ tvm. refl) (λ pages tvm. remaps Calm _ S pages h t tvm _ refl refl refl
+    one_yet Calm S h t _ (λ tvm. (refl, refl)) (λ pages tvm. remaps Calm _ S pages h t tvm _ refl refl refl
     (Restands (is_among gpa n) (blocked_standing others) refl restless (λ x here. blocked_follows x others here)
     (blocked_sound (harts_inside S t) others (λ k e. has_with h k (harts_inside S t) e))))
 
 act_yet : (Calm : Type 0) (S : State) (h t a0 a1 : ℕ) (act : GuestAct) → (Calm → blocks act ≡ true → ⊥) → Midway Calm S (guest_rule S h t a0 a1 act).outcome.state h
 act_yet Calm S h t a0 a1 (acts.Share gpa len) calm = blocking_yet Calm S h t gpa (len / 4096) _ (λ c. calm c refl)
 act_yet Calm S h t a0 a1 (acts.Unshare gpa len) calm = blocking_yet Calm S h t gpa (len / 4096) _ (λ c. calm c refl)
-act_yet Calm S h t a0 a1 acts.Extend calm = one_yet Calm S h t _ (λ tvm. refl) (λ pages tvm. unread Calm _ S pages h t tvm _ refl refl refl refl)
+act_yet Calm S h t a0 a1 acts.Extend calm = one_yet Calm S h t _ (λ tvm. (refl, refl)) (λ pages tvm. unread Calm _ S pages h t tvm _ refl refl refl refl)
 act_yet Calm S h t a0 a1 acts.Evidence calm =
     let how = overwritten (word_place a1) (words_in (evidence_at S t a0)) in
-    one_yet Calm S h t (with_words (page_of a1) how) (λ tvm. refl) (λ pages tvm. remaps Calm _ S pages h t tvm _ refl refl refl
+    one_yet Calm S h t (with_words (page_of a1) how) (λ tvm. (refl, refl)) (λ pages tvm. remaps Calm _ S pages h t tvm _ refl refl refl
     (Rewords (page_of a1) how refl (overwritten_length (word_place a1) (words_in (evidence_at S t a0)))))
-act_yet Calm S h t a0 a1 (acts.Allow id) calm = one_yet Calm S h t _ (λ tvm. refl) (λ pages tvm. unread Calm _ S pages h t tvm _ refl refl refl refl)
-act_yet Calm S h t a0 a1 (acts.Deny id) calm = one_yet Calm S h t _ (λ tvm. refl) (λ pages tvm. unread Calm _ S pages h t tvm _ refl refl refl refl)
+act_yet Calm S h t a0 a1 (acts.Allow id) calm = one_yet Calm S h t _ (λ tvm. (refl, refl)) (λ pages tvm. unread Calm _ S pages h t tvm _ refl refl refl refl)
+act_yet Calm S h t a0 a1 (acts.Deny id) calm = one_yet Calm S h t _ (λ tvm. (refl, refl)) (λ pages tvm. unread Calm _ S pages h t tvm _ refl refl refl refl)
 act_yet Calm S h t a0 a1 acts.Other calm = nothing_yet Calm S h
 
 -- the rule of an act of the guest that a hart runs in a seat
@@ -192,7 +192,7 @@ change_guest Calm S h seat (events.Exit exit) calm sits = record {
   framed = record { harts = refl; files = refl; key = refl; ended = refl; size = refl };
   seat = GetsUp seat exit calm sits refl;
   wrote = λ p. Left refl refl;
-  tvms = Once refl (Alters seat.tvm _ refl (λ tvm. refl) (λ tvm. record {
+  tvms = Once refl (Alters seat.tvm _ refl (λ tvm. (refl, refl)) (λ tvm. record {
     measures = Unmeasured refl refl;
     maps = Restands (λ g. true) (left_standing h) refl calm (λ x here. left_follows h x (apart_from h x (harts_inside S seat.tvm) here)) (left_held h (harts_inside S seat.tvm));
     cpus = Leaves seat.cpu exit refl (own_spares S h seat (stopped_by exit) sits);

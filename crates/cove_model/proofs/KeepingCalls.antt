@@ -41,7 +41,7 @@ KeepsAt h u xs ys = Keeps h (unwrap_or (at (λ k. k.number) u xs) (new_tvm u)) (
 
 keeps_one : (Calm : Type 0) (S : State) (pages : List Owner) (h k u : ℕ) (xs ys : List Tvm) → Outlives Calm S h k u → OneTvm Calm S pages k xs ys → KeepsAt h u xs ys
 keeps_one Calm S pages h k u xs ys why (NoTvm e) = subst (KeepsAt h u xs) (sym e) (let found = unwrap_or (at (λ k. k.number) u xs) (new_tvm u) in keeps_same h found found refl)
-keeps_one Calm S pages h k u xs ys why (Alters t how e numbers each) = subst (KeepsAt h u xs) (sym e) (keeps_on_tvm h t u how numbers xs
+keeps_one Calm S pages h k u xs ys why (Alters t how e names each) = subst (KeepsAt h u xs) (sym e) (keeps_on_tvm h t u how (λ tvm. (names tvm).0) xs
     (λ is tvm live. keeps_maps Calm _ S pages h k t tvm (how tvm) (subst (Outlives Calm S h k) is why) live (each tvm).maps))
 
 pub keeps_tvms : (Calm : Type 0) (S T : State) (h k u : ℕ) → Outlives Calm S h k u → TvmsChange Calm S T k → KeepsIn h u S T
@@ -49,15 +49,15 @@ keeps_tvms Calm S T h k u why (Once made one) = keeps_one Calm S T.pages h k u S
 keeps_tvms Calm S T h k u why (Twice made mid one two bound) =
     keeps_then h (tvm_at S u) (unwrap_or (at (λ k. k.number) u mid) (new_tvm u)) (tvm_at T u)
     (keeps_one Calm S T.pages h k u S.tvms mid why one) (keeps_one Calm S T.pages h k u mid T.tvms why two)
-keeps_tvms Calm S T h k u why (Grows made e) = subst (KeepsAt h u S.tvms) (sym e) (go (find_tvm S u) refl)
+keeps_tvms Calm S T h k u why (Grows mode made e) = subst (KeepsAt h u S.tvms) (sym e) (go (find_tvm S u) refl)
   where
     more : List Tvm
-    more = S.tvms ++ created (S.made + 1) (board_in S) ∷ []
+    more = S.tvms ++ created (S.made + 1) mode (board_in S) ∷ []
 
     go : (o : Option Tvm) → find_tvm S u ≡ o → Keeps h (unwrap_or o (new_tvm u)) (unwrap_or (at (λ (x : Tvm). x.number) u more) (new_tvm u))
     go None q = keeps_new h u (unwrap_or (at (λ (x : Tvm). x.number) u more) (new_tvm u))
     go (Some tvm) q = subst (λ (o : Option Tvm). Keeps h tvm (unwrap_or o (new_tvm u)))
-        (sym (at_append (λ (x : Tvm). x.number) u S.tvms (created (S.made + 1) (board_in S) ∷ []) tvm q)) (keeps_same h tvm tvm refl)
+        (sym (at_append (λ (x : Tvm). x.number) u S.tvms (created (S.made + 1) mode (board_in S) ∷ []) tvm q)) (keeps_same h tvm tvm refl)
 keeps_tvms Calm S T h k u (inl calm) (Loses t made e pages nobody restless) = absurd (restless calm)
 keeps_tvms Calm S T h k u (inr other) (Loses t made e pages nobody restless) = subst (KeepsAt h u S.tvms) (sym e)
     (subst (λ (o : Option Tvm). Keeps h (tvm_at S u) (unwrap_or o (new_tvm u)))

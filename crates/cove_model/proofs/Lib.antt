@@ -37,7 +37,6 @@ pub mod HartsInside
 pub mod Histories
 pub mod Holding
 pub mod Ways
-pub mod SlotStores
 pub mod LeafWords
 pub mod OwnedStores
 pub mod GuestStores

@@ -1,11 +1,11 @@
 -- What events leave of a TVM: pages are measured while it is built, then its finalize record, and nothing after; and the guest
 -- pages of its mappings differ.
 use Rattle.std.proofs.Common.{◌≡◌, ℕ, ◌+◌, Bool, true, false, cond, eqb, eqb-true, true≢false, not, List, [], ◌∷◌, ◌++◌, Option, Some, None, option_map, refl, sym, ap, subst, ◌∙◌, inl, inr, ◌⊎◌, ⊎_elim}
-use Rattle.cove_model.specs.Machine.{Owner, ScriptValue, Entry, Event, State, board_in, find_tvm, page_run, after, alter, at, dropped, AreDistinct, guests_of, after_event, done, Mapping, Tvm, created}
+use Rattle.cove_model.specs.Machine.{Owner, ScriptValue, Entry, Event, State, board_in, find_tvm, after, alter, at, dropped, AreDistinct, guests_of, after_event, done, Mapping, Mode, Tvm, created}
 use Rattle.std.specs.List.{AllByRecursion}
 use Rattle.std.proofs.lemmas.Bool.{cases_eq, ne_eqb}
 use Rattle.std.proofs.lemmas.Option.{none-some, same_Some}
-use Rattle.cove_base.specs.Measurement.{Record, BoardRecord, FinalizeRecord, board_number}
+use Rattle.cove_base.specs.Measurement.{Record, FinalizeRecord, board_number}
 use Rattle.cove_model.proofs.AtTheEnd.{after_push, from_end, line_tvms}
 use Rattle.cove_model.proofs.Boards.{board_of}
 use Rattle.cove_model.proofs.Changes.{Adds, Alters, Drops, Finalizes, Grows, Loses, Maps, Measures, NoTvm, Once, OneTvm, Parts, Restands, Rewords, TvmsChange, Twice, Unmapped, Unmeasured}
@@ -58,7 +58,7 @@ AllWere xs ys = (t : ℕ) (now : Tvm) → at (λ (k : Tvm). k.number) t ys ≡ S
 
 -- or is new
 abbrev pub Came : (board : ℕ) (xs : List Tvm) (t : ℕ) (now : Tvm) → Type 0
-Came board xs t now = Was xs t now ⊎ ((at (λ (k : Tvm). k.number) t xs ≡ None) × (now ≡ created t board))
+Came board xs t now = Was xs t now ⊎ ((at (λ (k : Tvm). k.number) t xs ≡ None) × ((mode : Mode) × (now ≡ created t mode board)))
 
 abbrev pub AllCame : (board : ℕ) (xs ys : List Tvm) → Type 0
 AllCame board xs ys = (t : ℕ) (now : Tvm) → at (λ (k : Tvm). k.number) t ys ≡ Some now → Came board xs t now
@@ -167,16 +167,16 @@ goes_change Found tvm now found orders (Finalizes pc arg built runs records) = g
 
 were_one : (Calm : Type 0) (S : State) (pages : List Owner) (h : ℕ) (xs ys : List Tvm) → OneTvm Calm S pages h xs ys → AllWere xs ys
 were_one Calm S pages h xs ys (NoTvm e) = subst (AllWere xs) (sym e) (were_same xs)
-were_one Calm S pages h xs ys (Alters t how e numbers each) = subst (AllWere xs) (sym e) (were_altered t how numbers xs
+were_one Calm S pages h xs ys (Alters t how e names each) = subst (AllWere xs) (sym e) (were_altered t how (λ tvm. (names tvm).0) xs
     (λ tvm live. goes_change _ tvm (how tvm) live (orders_maps Calm _ S pages h t tvm (how tvm) live (each tvm).maps) (each tvm).measures))
 
 pub came_tvms : (Calm : Type 0) (S T : State) (h : ℕ) → TvmsChange Calm S T h → AllCame (board_in S) S.tvms T.tvms
 came_tvms Calm S T h (Once made one) = λ t now e. inl (were_one Calm S T.pages h S.tvms T.tvms one t now e)
 came_tvms Calm S T h (Twice made mid one two bound) = λ t now e. inl (were_then S.tvms mid T.tvms (were_one Calm S T.pages h S.tvms mid one) (were_one Calm S T.pages h mid T.tvms two) t now e)
-came_tvms Calm S T h (Grows made e) = subst (AllCame (board_in S) S.tvms) (sym e) (λ t now found. ⊎_elim
+came_tvms Calm S T h (Grows mode made e) = subst (AllCame (board_in S) S.tvms) (sym e) (λ t now found. ⊎_elim
     (λ old. inl (were_same S.tvms t now old))
-    (λ new. inr (new.0, new.1.0 ∙ ap (λ k. created k (board_in S)) new.1.1))
-    (found_last t S.tvms (created (S.made + 1) (board_in S)) now found))
+    (λ new. inr (new.0, (mode, new.1.0 ∙ ap (λ k. created k mode (board_in S)) new.1.1)))
+    (found_last t S.tvms (created (S.made + 1) mode (board_in S)) now found))
 came_tvms Calm S T h (Loses t made e pages nobody restless) = subst (AllCame (board_in S) S.tvms) (sym e) (λ u now found. inl (were_same S.tvms u now (found_kept t u S.tvms now found)))
 
 -- ---- an event
@@ -186,8 +186,8 @@ came S h event t now e = came_tvms ⊥ S (done S h event) h (change_done S h eve
 
 -- ---- histories
 
-measured_new : (t board : ℕ) → IsMeasured board (created t board)
-measured_new t board = record { building = λ e. record { parts = []; all = tt; begins = refl }; finalized = λ e. absurd (true≢false (sym e)) }
+measured_new : (t : ℕ) (mode : Mode) (board : ℕ) → IsMeasured board (created t mode board)
+measured_new t mode board = record { building = λ e. record { parts = []; all = tt; begins = refl }; finalized = λ e. absurd (true≢false (sym e)) }
 
 -- the size of the board is the script's
 same_board : (script : ScriptValue) (H : List Entry) → board_in (after script H) ≡ board_number script.pages script.harts script.files
@@ -204,7 +204,7 @@ measured script = from_end (λ H. (t : ℕ) (tvm : Tvm) → find_tvm (after scri
     (λ H e more t tvm live.
     ⊎_elim
     (λ was. was.goes.keeps board (more t was.tvm was.live))
-    (λ new. subst (IsMeasured board) (sym (new.1 ∙ ap (created t) (same_board script H))) (measured_new t board))
+    (λ new. subst (IsMeasured board) (sym (new.1.1 ∙ ap (created t new.1.0) (same_board script H))) (measured_new t new.1.0 board))
     (came (after script H) e.hart.0 e.event t tvm (ap (λ (S : State). find_tvm S t) (sym (after_push script H e)) ∙ live)))
     (λ t tvm live. absurd (none-some tvm live))
   where
@@ -228,6 +228,6 @@ guests_differ script = from_end (λ H. (t : ℕ) (tvm : Tvm) → find_tvm (after
     (λ H e more t tvm live.
     ⊎_elim
     (λ was. was.goes.orders (more t was.tvm was.live))
-    (λ new. subst (λ x. AreDistinct (guests_of x)) (sym new.1) tt)
+    (λ new. subst (λ x. AreDistinct (guests_of x)) (sym new.1.1) tt)
     (came (after script H) e.hart.0 e.event t tvm (ap (λ (S : State). find_tvm S t) (sym (after_push script H e)) ∙ live)))
     (λ t tvm live. absurd (none-some tvm live))

@@ -2,7 +2,7 @@
 use Rattle.std.proofs.Common.{◌≡◌, ℕ, ◌+◌, ◌/◌, Bool, true, false, List, [], ◌∷◌, refl, sym, ap, subst, ◌∙◌, inl, inr, ◌⊎◌, ⊎_elim, nat_lt, length, arith, lt-ltb, suc, true≢false, eqb, eq-eqb, map, is_none}
 use Rattle.std.proofs.lemmas.Bool.{cond-true, cond-false, and_parts, eqb-true, or_left}
 use Rattle.std.proofs.lemmas.List.{map-append}
-use Rattle.cove_model.specs.Machine.{HostCall, Convert, GlobalFence, LocalFence, Reclaim, Create, Tables, Measured, Zero, Remove, Destroy, Owner, Host, Converting, Free, Given, Purpose, AsRoot, AsState, AsTable, AsVcpu, AsData, fence_answered, change, converted, fenced, has, page_at, reclaimed, without, word_stored, find_tvm, harts_below, harts_inside, State, board_in, alter, numbers_of, Tvm, created, is_among, rule, freed, given_to, is_data_of, is_given, removed}
+use Rattle.cove_model.specs.Machine.{HostCall, Convert, GlobalFence, LocalFence, Reclaim, Create, Tables, Measured, Zero, Remove, Destroy, Owner, Host, Converting, Free, Given, Purpose, AsRoot, AsState, AsTable, AsVcpu, AsData, fence_answered, change, converted, fenced, has, page_at, reclaimed, without, word_stored, find_tvm, harts_below, harts_inside, State, board_in, alter, numbers_of, Tvm, created, mode_of, is_among, rule, freed, given_to, is_data_of, is_given, removed}
 use Rattle.cove_base.specs.declared.calls.HostCall.TheVariants.{Vcpu}
 use Rattle.cove_model.proofs.Runs.{change_cases, page_map}
 use Rattle.cove_model.proofs.PageRuns.{each_cases}
@@ -139,7 +139,7 @@ move_call S h (Create root state) p ok =
     let T = outcome_state S h (Create root state) in
     let t = S.made + 1 in
     let mid = change (given_to t AsRoot) (root / 4096) 4 S.pages in
-    let live : has t (numbers_of T) ≡ true = ap (has t) (map-append (λ (k : Tvm). k.number) S.tvms (created t (board_in S) ∷ [])) ∙ has_right t (numbers_of S) (t ∷ []) (or_left (eqb t t) false (eq-eqb t t refl)) in
+    let live : has t (numbers_of T) ≡ true = ap (has t) (map-append (λ (k : Tvm). k.number) S.tvms (created t (mode_of root) (board_in S) ∷ [])) ∙ has_right t (numbers_of S) (t ∷ []) (or_left (eqb t t) false (eq-eqb t t refl)) in
     gift_twice S T h t AsRoot AsState (page_at S.pages p) (page_at mid p) (page_at T.pages p) refl (record { new_root = λ e. refl; live = live }) (no_root_gift S T t AsState refl live)
     (change_cases (given_to t AsRoot) (root / 4096) 4 S.pages p) (change_cases (given_to t AsState) (state / 4096) 1 mid p)
 move_call S h (Tables t base n) p ok =

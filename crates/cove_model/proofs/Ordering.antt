@@ -50,12 +50,12 @@ freed_apart t u purpose (Given v role) e = go (eqb v t) refl e
 
 numbers_one : (Calm : Type 0) (S : State) (pages : List Owner) (h : ℕ) (xs ys : List Tvm) → OneTvm Calm S pages h xs ys → map (λ (k : Tvm). k.number) ys ≡ map (λ (k : Tvm). k.number) xs
 numbers_one Calm S pages h xs ys (NoTvm e) = ap (map (λ (k : Tvm). k.number)) e
-numbers_one Calm S pages h xs ys (Alters t how e numbers each) = ap (map (λ (k : Tvm). k.number)) e ∙ keys_altered (λ (k : Tvm). k.number) t how numbers xs
+numbers_one Calm S pages h xs ys (Alters t how e names each) = ap (map (λ (k : Tvm). k.number)) e ∙ keys_altered (λ (k : Tvm). k.number) t how (λ tvm. (names tvm).0) xs
 
 renumbered : (Calm : Type 0) (S T : State) (h : ℕ) → TvmsChange Calm S T h → Renumbered S T
 renumbered Calm S T h (Once made one) = Kept made (numbers_one Calm S T.pages h S.tvms T.tvms one)
 renumbered Calm S T h (Twice made mid one two bound) = Kept made (numbers_one Calm S T.pages h mid T.tvms two ∙ numbers_one Calm S T.pages h S.tvms mid one)
-renumbered Calm S T h (Grows made e) = Added made (ap (map (λ (k : Tvm). k.number)) e ∙ map-append (λ (k : Tvm). k.number) S.tvms (created (S.made + 1) (board_in S) ∷ []))
+renumbered Calm S T h (Grows mode made e) = Added made (ap (map (λ (k : Tvm). k.number)) e ∙ map-append (λ (k : Tvm). k.number) S.tvms (created (S.made + 1) mode (board_in S) ∷ []))
 renumbered Calm S T h (Loses t made e pages nobody restless) =
     Fewer (λ n. not (eqb n t)) made (ap (map (λ (k : Tvm). k.number)) e ∙ keys_dropped (λ (k : Tvm). k.number) (λ n. eqb n t) S.tvms)
     (λ p u purpose given. freed_apart t u purpose (page_at S.pages p) (sym (page_map (freed t) refl S.pages p) ∙ ap (λ ps. page_at ps p) (sym pages) ∙ given))

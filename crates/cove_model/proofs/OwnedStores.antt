@@ -1,16 +1,15 @@
 -- The tables of a TVM that a hart is inside stay owned by every lawful store.
-use Rattle.std.proofs.Common.{◌≡◌, ◌≢◌, ℕ, zero, suc, ◌+◌, ◌*◌, ◌/◌, ◌%◌, ◌^◌, ◌<◌, ◌≤◌, Bool, true, false, List, get_or, length, set, refl, sym, ap, subst, ◌∙◌, inl, inr, ◌⊎◌, ⊎_elim, arith, get_or-set_other, get_or-set_same}
+use Rattle.std.proofs.Common.{◌≡◌, ◌≢◌, ℕ, zero, suc, ◌+◌, ◌-◌, ◌*◌, ◌/◌, ◌%◌, ◌^◌, ◌<◌, ◌≤◌, Bool, true, false, List, get_or, length, set, refl, sym, ap, subst, ◌∙◌, inl, inr, ◌⊎◌, arith, get_or-set_other, get_or-set_same}
 use Rattle.std.proofs.lemmas.Bool.{cases_eq, cases_lt}
-use Rattle.cove_base.proofs.TreeLemmas.{entry-stands, link-slot, middle-number, root-number, root≢middle}
-use Rattle.cove_model.specs.Machine.{converting, given, host, released, role_number, all_words, hart_word, table_word, Role, Root, Table, Vcpu, Data, AreOwned, HasEntered, IsBehindLeaf, IsInside, IsLawful, Counts, Converts, Frees, Gives, TakesBack, Removes, ChangesTable, Answers, Begins, FencesTvm, Enters, Leaves, IsFreeIn, IsLeft, IsRoot, IsTableOf, LeafNames, TableChange, Links, Maps, Blocks, Unblocks, Unmaps, Rewrites, FreeStands, answered_in, number_in}
+use Rattle.cove_base.proofs.SlotStores.{EntryMoves, entries-stay, entry-moves, under-empty}
+use Rattle.cove_base.proofs.TreeLemmas.{entry-stands, places-apart}
+use Rattle.cove_model.specs.Machine.{converting, given, host, all_words, table_word, Role, Root, Table, Vcpu, Data, AreOwned, IsBehindLeaf, IsLawful, ChangesPage, ChangesTable, Answers, Begins, FencesTvm, ChangesHart, PageChange, Counts, Converts, Frees, Gives, TakesBack, Removes, IsFreeIn, IsLeft, IsRoot, IsTableOf, LeafNames, TableChange, Links, Maps, Blocks, Unblocks, Unmaps, Rewrites, FreeStands, number_in}
 use Rattle.cove_base.specs.TableWords.{blocked}
-use Rattle.cove_base.specs.Tables.{Slot, InRoot, InMiddle, InLast, IsLinkSlot, IsSlot, Names, StandsAt, entry_at, leaf_at, next_table, present}
+use Rattle.cove_base.specs.Tables.{Slot, At, IsSlot, Names, StandsAt, entry_at, next_table, present}
 use Rattle.cove_base.specs.Tables.{ByBlocked, ByPresent}
 use Rattle.cove_base.specs.declared.numbers.Role.TheVariants.{State}
 use Rattle.cove_model.proofs.LeafWords.{blocked_named, blocked_next, given_host, given_number, given_role, next_named, none_named, present_named, present_next, role_small}
-use Rattle.cove_model.proofs.SlotStores.{entries_stay, entry_moves}
-use Rattle.cove_model.proofs.StoreLawProofs.{lawful_within}
-use Rattle.cove_model.specs.TableLaw.{StoresKeepOwned, ZerosKeepOwned}
+use Rattle.cove_model.specs.TableLaw.{StoresKeepOwned}
 
 -- ---- where slots stand
 
@@ -28,7 +27,7 @@ module _ (pages : ℕ) (words : List ℕ) (tvm root : ℕ) (owned : AreOwned pag
   root_word n low = owned.root_is.roots (n / 512) (omega arith)
 
   pub stands_in : (a : Slot) (place : ℕ) → IsSlot a → StandsAt pages root words a place → IsOwnPlace pages words tvm place
-  stands_in (InRoot n) place slot at = record {
+  stands_in (At zero n) place slot at = record {
     page = root + n / 512;
     i = n % 512;
     below = let fits = owned.root_is.fits in omega arith;
@@ -36,45 +35,26 @@ module _ (pages : ℕ) (words : List ℕ) (tvm root : ℕ) (owned : AreOwned pag
     at = omega arith;
     own = inl (root_word n slot);
   }
-  stands_in (InMiddle n) place slot at =
-      let table = owned.linked (InRoot (n / 512)) at.0 (omega arith) at.1 in
+  stands_in (At (suc d) n) place slot at =
+      let table = owned.linked (At d (n / 512)) at.0 (omega arith) at.1 in
       record { page = at.0; i = n % 512; below = table.0; low = omega arith; at = at.2; own = inr table.1 }
-  stands_in (InLast g) place slot at =
-      let table = owned.linked (InMiddle (g / 512)) at.0 (omega arith) at.1 in
-      record { page = at.0; i = g % 512; below = table.0; low = omega arith; at = at.2; own = inr table.1 }
 
-  -- no link slot of the root stands in a table
-  root_table : (n m place : ℕ) → n < 2048 → m < 2 ^ 20 → StandsAt pages root words (InRoot n) place → StandsAt pages root words (InMiddle m) place → ⊥
-  root_table n m place slot lower at named =
-      let table = owned.linked (InRoot (m / 512)) named.0 (omega arith) named.1 in
-      let stands : place ≡ table_word pages named.0 (m % 512) = named.2 in
-      let page : named.0 ≡ root + n / 512 = omega arith in
-      let is : given tvm Table ≡ given tvm Root = sym table.1 ∙ ap (λ p. get_or words p 0) page ∙ root_word n slot in
-      absurd (omega arith)
+  -- a table that a slot names is none of the root's pages
+  pub table_outside : (a : Slot) (page : ℕ) → IsSlot a → entry_at pages root words a ≡ next_table page → (page < root) ⊎ (root + 4 ≤ page)
+  table_outside a page slot named = elim (cases_lt page root) [
+    | inl before ↦ inl before
+    | inr from ↦ elim (cases_lt page (root + 4)) [
+      | inr past ↦ inr past
+      | inl within ↦
+          let at : root + (page - root) ≡ page = omega arith in
+          let is : given tvm Root ≡ given tvm Table = sym (owned.root_is.roots (page - root) (omega arith)) ∙ ap (λ p. get_or words p 0) at ∙ (owned.linked a page slot named).1 in
+          absurd (omega arith)
+    ]
+  ]
 
-  -- two link slots at one place are one
-  pub links_apart : (a b : Slot) (place : ℕ) → IsLinkSlot a → IsLinkSlot b → StandsAt pages root words a place → StandsAt pages root words b place → a ≡ b
-  links_apart (InRoot n) (InRoot m) place sa sb at bt = ap InRoot (omega arith)
-  links_apart (InRoot n) (InMiddle m) place sa sb at bt = absurd (root_table n m place sa sb at bt)
-  links_apart (InMiddle n) (InRoot m) place sa sb at bt = absurd (root_table m n place sb sa bt at)
-  links_apart (InMiddle n) (InMiddle m) place sa sb at bt =
-      let here : place ≡ table_word pages at.0 (n % 512) = at.2 in
-      let there : place ≡ table_word pages bt.0 (m % 512) = bt.2 in
-      let same : bt.0 ≡ at.0 = omega arith in
-      let above : n / 512 ≡ m / 512 = root-number (n / 512) (m / 512) (owned.apart (InRoot (n / 512)) (InRoot (m / 512)) at.0 (omega arith) (omega arith) at.1 (bt.1 ∙ ap next_table same)) in
-      ap InMiddle (omega arith)
-  links_apart (InLast g) b place sa sb at bt = absurd sa
-  links_apart (InRoot n) (InLast h) place sa sb at bt = absurd sb
-  links_apart (InMiddle n) (InLast h) place sa sb at bt = absurd sb
-
-  -- two leaves at one place are one
-  pub leaves_apart : (g h place : ℕ) → g < 2 ^ 29 → h < 2 ^ 29 → StandsAt pages root words (InLast g) place → StandsAt pages root words (InLast h) place → g ≡ h
-  leaves_apart g h place sg sh at bt =
-      let here : place ≡ table_word pages at.0 (g % 512) = at.2 in
-      let there : place ≡ table_word pages bt.0 (h % 512) = bt.2 in
-      let same : bt.0 ≡ at.0 = omega arith in
-      let above : g / 512 ≡ h / 512 = middle-number (g / 512) (h / 512) (owned.apart (InMiddle (g / 512)) (InMiddle (h / 512)) at.0 (omega arith) (omega arith) at.1 (bt.1 ∙ ap next_table same)) in
-      omega arith
+  -- slots at one place are one
+  pub slots_apart : (a b : Slot) (place : ℕ) → IsSlot a → IsSlot b → StandsAt pages root words a place → StandsAt pages root words b place → a ≡ b
+  slots_apart = places-apart pages root words table_outside owned.apart
 
   -- ---- where every entry stays
 
@@ -82,7 +62,7 @@ module _ (pages : ℕ) (words : List ℕ) (tvm root : ℕ) (owned : AreOwned pag
       (roots : (p : ℕ) → p < pages → get_or words p 0 ≡ given tvm Root → get_or new p 0 ≡ given tvm Root)
       (least : (p : ℕ) → p < root → get_or new p 0 ≢ given tvm Root)
       (tables : (p : ℕ) → p < pages → get_or words p 0 ≡ given tvm Table → get_or new p 0 ≡ given tvm Table)
-      (behind : (g page : ℕ) (shared : Bool) → g < 2 ^ 29 → page < pages → Names page shared (leaf_at pages root words g) → IsBehindLeaf words tvm page shared → IsBehindLeaf new tvm page shared) where
+      (behind : (a : Slot) (page : ℕ) (shared : Bool) → IsSlot a → page < pages → Names page shared (entry_at pages root words a) → IsBehindLeaf words tvm page shared → IsBehindLeaf new tvm page shared) where
     pub owned_again : AreOwned pages new tvm root
     owned_again = record {
       root_is = record {
@@ -91,20 +71,20 @@ module _ (pages : ℕ) (words : List ℕ) (tvm root : ℕ) (owned : AreOwned pag
         least = least;
       };
       linked = λ a page slot named.
-          let was = owned.linked a page slot (sym (same a (link-slot a slot)) ∙ named) in
+          let was = owned.linked a page slot (sym (same a slot) ∙ named) in
           (was.0, tables page was.0 was.1);
-      apart = λ a b page sa sb na nb. owned.apart a b page sa sb (sym (same a (link-slot a sa)) ∙ na) (sym (same b (link-slot b sb)) ∙ nb);
-      backed = λ g page shared low small named.
-          let leaf = subst (Names page shared) (same (InLast g) low) named in
-          let was = owned.backed g page shared low small leaf in
-          (was.0, behind g page shared low was.0 leaf was.1);
+      apart = λ a b page sa sb na nb. owned.apart a b page sa sb (sym (same a sa) ∙ na) (sym (same b sb) ∙ nb);
+      backed = λ a page shared slot small named.
+          let leaf = subst (Names page shared) (same a slot) named in
+          let was = owned.backed a page shared slot small leaf in
+          (was.0, behind a page shared slot was.0 leaf was.1);
     }
 
   -- ---- a store of a page word
 
   module _ (place word : ℕ) (inside : place < pages)
       (no_root : get_or words place 0 ≢ given tvm Root) (new_root : word ≢ given tvm Root) (no_table : get_or words place 0 ≢ given tvm Table)
-      (behind : (g : ℕ) (shared : Bool) → g < 2 ^ 29 → Names place shared (leaf_at pages root words g) → IsBehindLeaf words tvm place shared → IsBehindLeaf (set words place word) tvm place shared) where
+      (behind : (a : Slot) (shared : Bool) → IsSlot a → Names place shared (entry_at pages root words a) → IsBehindLeaf words tvm place shared → IsBehindLeaf (set words place word) tvm place shared) where
     abbrev stored : List ℕ
     stored = set words place word
 
@@ -121,16 +101,16 @@ module _ (pages : ℕ) (words : List ℕ) (tvm root : ℕ) (owned : AreOwned pag
     pub page_stored : place < length words → AreOwned pages stored tvm root
     page_stored within =
         owned_again stored
-        (entries_stay pages root words place word (λ a slot at. let own = stands_in a place slot at in let is : place ≡ table_word pages own.page own.i = own.at in omega arith))
+        (entries-stay pages root words place word (λ a slot at. let own = stands_in a place slot at in let is : place ≡ table_word pages own.page own.i = own.at in omega arith))
         (λ p low is. keeps p (given tvm Root) no_root is)
         (λ p low is. elim (cases_eq p place) [
           | inl here ↦ new_root (sym (ap (λ q. get_or stored q 0) here ∙ get_or-set_same words place word 0 within) ∙ is)
           | inr off ↦ owned.root_is.least p low (sym (other_word p off) ∙ is)
         ])
         (λ p low is. keeps p (given tvm Table) no_table is)
-        (λ g page shared low on named was. elim (cases_eq page place) [
+        (λ a page shared slot on named was. elim (cases_eq page place) [
           | inl here ↦ subst (λ p. IsBehindLeaf stored tvm p shared) (sym here)
-              (behind g shared low (subst (λ p. Names p shared (leaf_at pages root words g)) here named) (subst (λ p. IsBehindLeaf words tvm p shared) here was))
+              (behind a shared slot (subst (λ p. Names p shared (entry_at pages root words a)) here named) (subst (λ p. IsBehindLeaf words tvm p shared) here was))
           | inr off ↦ behind_other page shared off was
         ])
 
@@ -159,36 +139,36 @@ module _ (pages : ℕ) (words : List ℕ) (tvm root : ℕ) (owned : AreOwned pag
     -- where no slot stands there
     pub elsewhere_stored : ((a : Slot) → IsSlot a → StandsAt pages root words a place → ⊥) → AreOwned pages stored_past tvm root
     elsewhere_stored none =
-        owned_again stored_past (entries_stay pages root words place word none)
+        owned_again stored_past (entries-stay pages root words place word none)
         (λ p low is. page_word_stays p low ∙ is) (λ p low. root_stays.least p low) (λ p low is. page_word_stays p low ∙ is)
-        (λ g page shared low on named was. behind_stays page shared on was)
+        (λ a page shared slot on named was. behind_stays page shared on was)
 
     -- A slot may stand there, and its entry becomes the word.
-    module _ (moves : (a : Slot) → IsSlot a → (entry_at pages root stored_past a ≡ entry_at pages root words a) ⊎ (StandsAt pages root words a place × (entry_at pages root stored_past a ≡ word)))
-        (linked : (page : ℕ) → word ≡ next_table page → (page < pages) × (get_or words page 0 ≡ given tvm Table) × ((b : Slot) → IsLinkSlot b → entry_at pages root words b ≢ next_table page))
-        (backed : (g page : ℕ) (shared : Bool) → g < 2 ^ 29 → page < 2 ^ 16 → StandsAt pages root words (InLast g) place → Names page shared word → (page < pages) × IsBehindLeaf words tvm page shared) where
-      new_linked : (a : Slot) (page : ℕ) → IsLinkSlot a → entry_at pages root stored_past a ≡ next_table page → (page < pages) × (get_or stored_past page 0 ≡ given tvm Table)
-      new_linked a page slot named = elim (moves a (link-slot a slot)) [
+    module _ (moves : (a : Slot) → IsSlot a → EntryMoves pages root words place word a)
+        (linked : (page : ℕ) → word ≡ next_table page → (page < pages) × (get_or words page 0 ≡ given tvm Table) × ((b : Slot) → IsSlot b → entry_at pages root words b ≢ next_table page))
+        (backed : (a : Slot) (page : ℕ) (shared : Bool) → IsSlot a → page < 2 ^ 16 → StandsAt pages root words a place → Names page shared word → (page < pages) × IsBehindLeaf words tvm page shared) where
+      new_linked : (a : Slot) (page : ℕ) → IsSlot a → entry_at pages root stored_past a ≡ next_table page → (page < pages) × (get_or stored_past page 0 ≡ given tvm Table)
+      new_linked a page slot named = elim (moves a slot) [
         | inl same ↦ let was = owned.linked a page slot (sym same ∙ named) in (was.0, page_word_stays page was.0 ∙ was.1)
         | inr moved ↦ let new = linked page (sym moved.1 ∙ named) in (new.0, page_word_stays page new.0 ∙ new.1)
       ]
 
-      new_apart : (a b : Slot) (page : ℕ) → IsLinkSlot a → IsLinkSlot b → entry_at pages root stored_past a ≡ next_table page → entry_at pages root stored_past b ≡ next_table page → a ≡ b
-      new_apart a b page sa sb na nb = elim (moves a (link-slot a sa)) [
-        | inl same ↦ elim (moves b (link-slot b sb)) [
+      new_apart : (a b : Slot) (page : ℕ) → IsSlot a → IsSlot b → entry_at pages root stored_past a ≡ next_table page → entry_at pages root stored_past b ≡ next_table page → a ≡ b
+      new_apart a b page sa sb na nb = elim (moves a sa) [
+        | inl same ↦ elim (moves b sb) [
           | inl also ↦ owned.apart a b page sa sb (sym same ∙ na) (sym also ∙ nb)
           | inr moved ↦ absurd ((linked page (sym moved.1 ∙ nb)).2 a sa (sym same ∙ na))
         ]
-        | inr moved ↦ elim (moves b (link-slot b sb)) [
+        | inr moved ↦ elim (moves b sb) [
           | inl also ↦ absurd ((linked page (sym moved.1 ∙ na)).2 b sb (sym also ∙ nb))
-          | inr both ↦ links_apart a b place sa sb moved.0 both.0
+          | inr both ↦ slots_apart a b place sa sb moved.0 both.0
         ]
       ]
 
-      new_backed : (g page : ℕ) (shared : Bool) → g < 2 ^ 29 → page < 2 ^ 16 → Names page shared (leaf_at pages root stored_past g) → (page < pages) × IsBehindLeaf stored_past tvm page shared
-      new_backed g page shared low small named = elim (moves (InLast g) low) [
-        | inl same ↦ let was = owned.backed g page shared low small (subst (Names page shared) same named) in (was.0, behind_stays page shared was.0 was.1)
-        | inr moved ↦ let was = backed g page shared low small moved.0 (subst (Names page shared) moved.1 named) in (was.0, behind_stays page shared was.0 was.1)
+      new_backed : (a : Slot) (page : ℕ) (shared : Bool) → IsSlot a → page < 2 ^ 16 → Names page shared (entry_at pages root stored_past a) → (page < pages) × IsBehindLeaf stored_past tvm page shared
+      new_backed a page shared slot small named = elim (moves a slot) [
+        | inl same ↦ let was = owned.backed a page shared slot small (subst (Names page shared) same named) in (was.0, behind_stays page shared was.0 was.1)
+        | inr moved ↦ let was = backed a page shared slot small moved.0 (subst (Names page shared) moved.1 named) in (was.0, behind_stays page shared was.0 was.1)
       ]
 
       pub slot_stored : AreOwned pages stored_past tvm root
@@ -210,7 +190,7 @@ one_root pages words tvm a b ra rb = elim (cases_lt a b) [
 
 -- ---- every lawful store
 
-free_given : {harts : ℕ} {numbers : ℕ → ℕ} (word t : ℕ) (role : Role) → FreeStands harts numbers word → word ≢ given t role
+pub free_given : {harts : ℕ} {numbers : ℕ → ℕ} (word t : ℕ) (role : Role) → FreeStands harts numbers word → word ≢ given t role
 free_given word t role (inl is) e = let a = role_small role in omega arith
 free_given word t role (inr pends) e = let a = role_small role in let is : word ≡ converting pends.0 = pends.1 in omega arith
 
@@ -230,173 +210,214 @@ not_behind : (words : List ℕ) (tvm place : ℕ) (shared : Bool) → get_or wor
 not_behind words tvm place false no_data no_maps was = no_data was
 not_behind words tvm place true no_data no_maps was = no_maps was.0 was.1 was.2
 
-module _ (pages harts hart other : ℕ) (old words : List ℕ) (place word tvm root : ℕ) (small : pages ≤ 2 ^ 16) (size : length words ≡ all_words pages harts) (on : other < harts) (inside : IsInside pages harts words tvm other) (owned : AreOwned pages words tvm root) where
-  abbrev after_store : List ℕ
-  after_store = set words place word
+-- ---- what a store in tables does to the entries of a TVM
 
-  not_left : (u : ℕ) → u ≡ tvm → IsLeft pages harts words u → ⊥
-  not_left u same left = left other on (subst (λ t. IsInside pages harts words t other) (sym same) inside)
+-- no slot stands there, or one may, whose entry changes so
+pub data Touches (pages harts : ℕ) (old words : List ℕ) (place word tvm root : ℕ) : Type 0 where
+  Apart : ((a : Slot) → IsSlot a → StandsAt pages root words a place → ⊥) → Touches pages harts old words place word tvm root
+  Within :
+      TableChange pages harts words tvm old place (get_or words place 0) word
+      → ((a : Slot) → IsSlot a → EntryMoves pages root words place word a)
+      → Touches pages harts old words place word tvm root
 
-  -- a store beside the words of tables and pages
-  beside_owned : pages ≤ place → 513 * pages ≤ place → AreOwned pages after_store tvm root
-  beside_owned past high =
-      elsewhere_stored pages words tvm root owned place word past
-      (λ a slot at. let own = stands_in pages words tvm root owned a place slot at in let is : place ≡ table_word pages own.page own.i = own.at in let b = own.below in let l = own.low in omega arith)
+module _ (pages harts : ℕ) (old words : List ℕ) (place word tvm root : ℕ) (size : length words ≡ all_words pages harts) (owned : AreOwned pages words tvm root) (not_left : IsLeft pages harts words tvm → ⊥) where
+  abbrev Change : Type 0
+  Change = TableChange pages harts words tvm old place (get_or words place 0) word
 
-  -- a store in the tables of another TVM
-  foreign_owned : (u page i : ℕ) → page < pages → i < 512 → place ≡ table_word pages page i → IsTableOf words u page → u ≢ tvm → AreOwned pages after_store tvm root
-  foreign_owned u page i below low at of ne =
-      elsewhere_stored pages words tvm root owned place word (omega arith)
-      (λ a slot stands.
-      let own = stands_in pages words tvm root owned a place slot stands in
+  low_apart : place < pages → (a : Slot) → IsSlot a → StandsAt pages root words a place → ⊥
+  low_apart below a slot at =
+      let own = stands_in pages words tvm root owned a place slot at in
       let is : place ≡ table_word pages own.page own.i = own.at in
+      omega arith
+
+  high_apart : 513 * pages ≤ place → (a : Slot) → IsSlot a → StandsAt pages root words a place → ⊥
+  high_apart above a slot at =
+      let own = stands_in pages words tvm root owned a place slot at in
+      let is : place ≡ table_word pages own.page own.i = own.at in
+      let b = own.below in
       let l = own.low in
-      let same : own.page ≡ page = omega arith in
-      ne (one_owner words u tvm page of (subst (IsTableOf words tvm) same own.own)))
+      omega arith
 
-  -- a store in the tables of the TVM
+  -- the leaf that is blocked is the one that was there
+  now_blocked : (leaf : ℕ) → get_or words place 0 ≡ leaf → word ≡ blocked (get_or words place 0) (number_in pages harts words tvm) → word ≡ blocked leaf (number_in pages harts words tvm)
+  now_blocked leaf was is = is ∙ ap (λ w. blocked w (number_in pages harts words tvm)) was
+
+  -- no table is named there before
+  pub no_longer : Change → (q : ℕ) → get_or words place 0 ≢ next_table q
+  no_longer (Links p none is q-below q-given unnamed zeros) q named = let e = sym none ∙ named in absurd (omega arith)
+  no_longer (Maps p s none is p-below behind) q named = let e = sym none ∙ named in absurd (omega arith)
+  no_longer (Blocks p s r a p-small was is root_is slot stands before) q named = present_next p s q (sym was ∙ named)
+  no_longer (Unblocks p s since p-small was is) q named = blocked_next p s since q (sym was ∙ named)
+  no_longer (Unmaps p s since p-small was is fenced above) q named = blocked_next p s since q (sym was ∙ named)
+  no_longer (Rewrites left) q named = not_left left
+
+  -- a table that is named there then is given for tables, and no slot named it
+  linked_then : Change → (q : ℕ) → word ≡ next_table q → (q < pages) × (get_or words q 0 ≡ given tvm Table) × ((b : Slot) → IsSlot b → entry_at pages root words b ≢ next_table q)
+  linked_then (Links p none is p-below p-given unnamed zeros) q named =
+      let same : q ≡ p = omega arith in
+      subst (λ k. (k < pages) × (get_or words k 0 ≡ given tvm Table) × ((b : Slot) → IsSlot b → entry_at pages root words b ≢ next_table k)) (sym same) (p-below, p-given, λ b. unnamed root b owned.root_is)
+  linked_then (Maps p s none is p-below behind) q named = absurd (present_next p s q (sym is ∙ named))
+  linked_then (Blocks p s r a p-small was is root_is slot stands before) q named =
+      absurd (blocked_next p s (number_in pages harts words tvm) q (sym (now_blocked (present p s) was is) ∙ named))
+  linked_then (Unblocks p s since p-small was is) q named = absurd (present_next p s q (sym is ∙ named))
+  linked_then (Unmaps p s since p-small was is fenced above) q named = let e = sym is ∙ named in absurd (omega arith)
+  linked_then (Rewrites left) q named = absurd (not_left left)
+
+  -- what an entry named before stands behind a leaf
+  named_before : (a : Slot) (x : ℕ) (shared : Bool) (p : ℕ) (s : Bool) → IsSlot a → x < 2 ^ 16 → (x ≡ p) × (shared ≡ s) → Names p s (entry_at pages root words a) → (x < pages) × IsBehindLeaf words tvm x shared
+  named_before a x shared p s slot x-low same leaf =
+      owned.backed a x shared slot x-low
+      (subst (λ t. Names x t (entry_at pages root words a)) (sym same.1) (subst (λ y. Names y s (entry_at pages root words a)) (sym same.0) leaf))
+
+  -- and so does what is named there then
+  backed_then : Change → (a : Slot) (x : ℕ) (shared : Bool) → IsSlot a → x < 2 ^ 16 → StandsAt pages root words a place → Names x shared word → (x < pages) × IsBehindLeaf words tvm x shared
+  backed_then (Links q none is q-below q-given unnamed zeros) a x shared slot x-low here named = absurd (next_named x shared word q is named)
+  backed_then (Maps p s none is p-below behind) a x shared slot x-low here named =
+      let same = present_named x shared word p s is named in
+      subst (λ y. (y < pages) × IsBehindLeaf words tvm y shared) (sym same.0) (p-below, subst (IsBehindLeaf words tvm p) (sym same.1) behind)
+  backed_then (Blocks p s r b p-small was is root_is b-slot stands before) a x shared slot x-low here named =
+      named_before a x shared p s slot x-low (blocked_named x shared word p s (number_in pages harts words tvm) x-low p-small (now_blocked (present p s) was is) named)
+      (ByPresent (entry-stands pages root words a place here ∙ was))
+  backed_then (Unblocks p s since p-small was is) a x shared slot x-low here named =
+      named_before a x shared p s slot x-low (present_named x shared word p s is named) (ByBlocked since (entry-stands pages root words a place here ∙ was))
+  backed_then (Unmaps p s since p-small was is fenced above) a x shared slot x-low here named = absurd (none_named x shared word is named)
+  backed_then (Rewrites left) a x shared slot x-low here named = absurd (not_left left)
+
+  touched_owned : pages ≤ place → Touches pages harts old words place word tvm root → AreOwned pages (set words place word) tvm root
+  touched_owned past (Apart none) = elsewhere_stored pages words tvm root owned place word past none
+  touched_owned past (Within change moves) = slot_stored pages words tvm root owned place word past moves (linked_then change) (backed_then change)
+
   module _ (page i : ℕ) (below : page < pages) (low : i < 512) (at : place ≡ table_word pages page i) where
-    past : pages ≤ place
-    past = omega arith
-
     within : place < length words
     within = omega arith
 
-    -- of a word that names no table, where none was named
-    plain_owned : ((q : ℕ) → get_or words place 0 ≢ next_table q) → ((q : ℕ) → word ≢ next_table q)
-        → ((g p : ℕ) (shared : Bool) → g < 2 ^ 29 → p < 2 ^ 16 → StandsAt pages root words (InLast g) place → Names p shared word → (p < pages) × IsBehindLeaf words tvm p shared)
-        → AreOwned pages after_store tvm root
-    plain_owned was is backed =
-        slot_stored pages words tvm root owned place word past
-        (entry_moves pages root words place word within was (λ q j named j-low. absurd (is q named)))
-        (λ q named. absurd (is q named)) backed
+    -- the page has words of the TVM's tables where a slot stands there
+    own_page : (a : Slot) → IsSlot a → StandsAt pages root words a place → IsTableOf words tvm page
+    own_page a slot stands =
+        let own = stands_in pages words tvm root owned a place slot stands in
+        let is : place ≡ table_word pages own.page own.i = own.at in
+        let l = own.low in
+        let same : own.page ≡ page = omega arith in
+        subst (IsTableOf words tvm) same own.own
 
-    own_owned : TableChange pages harts words tvm old place (get_or words place 0) word → AreOwned pages after_store tvm root
-    own_owned (Links q none is q-below q-given unnamed zeros) =
-        elim (stands_cases q is q-given unnamed zeros) [
-          | inl nowhere ↦ elsewhere_stored pages words tvm root owned place word past nowhere
-          | inr apart ↦ slot_stored pages words tvm root owned place word past
-              (entry_moves pages root words place word within (λ p named. let e = sym none ∙ named in absurd (omega arith)) apart)
-              (λ p named. let same : p ≡ q = omega arith in subst (λ k. (k < pages) × (get_or words k 0 ≡ given tvm Table) × ((b : Slot) → IsLinkSlot b → entry_at pages root words b ≢ next_table k)) (sym same) (q-below, q-given, λ b slot. unnamed root b owned.root_is slot))
-              (λ g p shared g-low p-low stands named. absurd (next_named p shared word q is named))
-        ]
+    -- no slot stands in a page that none names
+    unnamed_apart : get_or words page 0 ≡ given tvm Table → ((a : Slot) → IsSlot a → entry_at pages root words a ≢ next_table page) → (a : Slot) → IsSlot a → StandsAt pages root words a place → ⊥
+    unnamed_apart for_tables unnamed (At zero n) slot stands =
+        let here : root + n / 512 ≡ page = omega arith in
+        let is : given tvm Root ≡ given tvm Table = sym (root_word pages words tvm root owned n slot) ∙ ap (λ p. get_or words p 0) here ∙ for_tables in
+        absurd (omega arith)
+    unnamed_apart for_tables unnamed (At (suc d) n) slot stands =
+        let there : place ≡ table_word pages stands.0 (n % 512) = stands.2 in
+        let here : stands.0 ≡ page = omega arith in
+        unnamed (At d (n / 512)) (omega arith) (stands.1 ∙ ap next_table here)
+
+    -- a word that names no table in place of one that names none
+    plain : Change → ((q : ℕ) → word ≢ next_table q) → Touches pages harts old words place word tvm root
+    plain change is =
+        Within change (entry-moves pages root words place word within (under-empty pages root words place word (no_longer change) (λ q j named j-low. absurd (is q named))))
+
+    linked : Change → (q : ℕ) → word ≡ next_table q → ((j : ℕ) → j < 512 → get_or words (table_word pages q j) 0 ≡ 0) → Touches pages harts old words place word tvm root
+    linked change q is zeros = elim (cases_eq page q) [
+      | inl same ↦
+          let then = linked_then change page (is ∙ ap next_table (sym same)) in
+          Apart (unnamed_apart then.1 then.2)
+      | inr off ↦ Within change
+          (entry-moves pages root words place word within (under-empty pages root words place word (no_longer change)
+          (λ p j named j-low.
+          let p-is : p ≡ q = omega arith in
+          (subst (λ k. get_or words (table_word pages k j) 0 ≡ 0) (sym p-is) (zeros j j-low), λ e. off (omega arith)))))
+    ]
+
+    own_touches : Change → Touches pages harts old words place word tvm root
+    own_touches (Links q none is q-below q-given unnamed zeros) = linked (Links q none is q-below q-given unnamed zeros) q is zeros
+    own_touches (Maps p s none is p-below behind) = plain (Maps p s none is p-below behind) (λ q named. present_next p s q (sym is ∙ named))
+    own_touches (Blocks p s r a p-small was is root_is slot stands before) =
+        plain (Blocks p s r a p-small was is root_is slot stands before)
+        (λ q named. blocked_next p s (number_in pages harts words tvm) q (sym (now_blocked (present p s) was is) ∙ named))
+    own_touches (Unblocks p s since p-small was is) = plain (Unblocks p s since p-small was is) (λ q named. present_next p s q (sym is ∙ named))
+    own_touches (Unmaps p s since p-small was is fenced above) =
+        plain (Unmaps p s since p-small was is fenced above) (λ q named. let e = sym is ∙ named in absurd (omega arith))
+    own_touches (Rewrites left) = absurd (not_left left)
+
+    pub table_touches : (u : ℕ) → IsTableOf words u page → TableChange pages harts words u old place (get_or words place 0) word → Touches pages harts old words place word tvm root
+    table_touches u of change = elim (cases_eq u tvm) [
+      | inl same ↦ own_touches (subst (λ t. TableChange pages harts words t old place (get_or words place 0) word) same change)
+      | inr ne ↦ Apart (λ a slot stands. ne (one_owner words u tvm page of (own_page a slot stands)))
+    ]
+
+  pub lawful_touches : {hart : ℕ} → IsLawful pages harts hart old words place word → Touches pages harts old words place word tvm root
+  lawful_touches (ChangesPage page is at change) = Apart (low_apart (omega arith))
+  lawful_touches (ChangesTable u page i is under at of change) = table_touches page i is under at u of change
+  lawful_touches (Answers is at new) = Apart (high_apart (omega arith))
+  lawful_touches (Begins at room new all) = Apart (high_apart (omega arith))
+  lawful_touches (FencesTvm u some few at room new all) = Apart (high_apart (omega arith))
+  lawful_touches (ChangesHart is at change) = Apart (high_apart (omega arith))
+
+  -- ---- page words
+
+  module _ (page : ℕ) (inside : page < pages) where
+    -- the page that a leaf of the TVM names is named
+    named_by : (a : Slot) (shared : Bool) → IsSlot a → Names page shared (entry_at pages root words a) → LeafNames pages words tvm page
+    named_by a shared slot named = (root, owned.root_is, (a, slot, (shared, named)))
+
+    free_owned : IsFreeIn pages harts words page → word ≢ given tvm Root → AreOwned pages (set words page word) tvm root
+    free_owned free new =
+        page_stored pages words tvm root owned page word inside
+        (free_given _ tvm Root free) new (free_given _ tvm Table free)
+        (λ a shared slot named was. absurd (not_behind words tvm page shared (free_given _ tvm Data free) (λ maps some. free_host _ maps free) was))
+        (omega arith)
+
+    pub page_owned : PageChange pages harts old words page word → AreOwned pages (set words page word) tvm root
+    page_owned (Counts before after was new few) =
+        page_stored pages words tvm root owned page word inside
+        (λ e. given_host tvm before Root (sym e ∙ was)) (λ e. given_host tvm after Root (sym e ∙ new)) (λ e. given_host tvm before Table (sym e ∙ was))
+        (λ a shared slot named behind. counted after new shared behind (λ none. few none tvm (named_by a shared slot named)))
+        (omega arith)
       where
-        -- the place is none of the page that is linked, or no slot stands there
-        stands_cases : (q : ℕ) → word ≡ next_table q → get_or words q 0 ≡ given tvm Table → ((r : ℕ) (a : Slot) → IsRoot pages words tvm r → IsLinkSlot a → entry_at pages r words a ≢ next_table q) → ((j : ℕ) → j < 512 → get_or words (table_word pages q j) 0 ≡ 0)
-            → ((a : Slot) → IsSlot a → StandsAt pages root words a place → ⊥) ⊎ ((p j : ℕ) → word ≡ next_table p → j < 512 → (get_or words (table_word pages p j) 0 ≡ 0) × (place ≢ table_word pages p j))
-        stands_cases q is q-given unnamed zeros = elim (cases_eq page q) [
-          | inl same ↦ inl (λ a slot stands. nowhere q same q-given unnamed a slot stands)
-          | inr off ↦ inr (λ p j named j-low.
-              let p-is : p ≡ q = omega arith in
-              (subst (λ k. get_or words (table_word pages k j) 0 ≡ 0) (sym p-is) (zeros j j-low), λ e. off (omega arith)))
-        ]
-          where
-            nowhere : (q : ℕ) → page ≡ q → get_or words q 0 ≡ given tvm Table → ((r : ℕ) (a : Slot) → IsRoot pages words tvm r → IsLinkSlot a → entry_at pages r words a ≢ next_table q) → (a : Slot) → IsSlot a → StandsAt pages root words a place → ⊥
-            nowhere q same q-given unnamed (InRoot n) slot stands =
-                let here : root + n / 512 ≡ q = omega arith in
-                let is : given tvm Root ≡ given tvm Table = sym (root_word pages words tvm root owned n slot) ∙ ap (λ p. get_or words p 0) here ∙ q-given in
-                absurd (omega arith)
-            nowhere q same q-given unnamed (InMiddle n) slot stands =
-                let at' : place ≡ table_word pages stands.0 (n % 512) = stands.2 in
-                let here : stands.0 ≡ q = omega arith in
-                unnamed root (InRoot (n / 512)) owned.root_is (omega arith) (stands.1 ∙ ap next_table here)
-            nowhere q same q-given unnamed (InLast g) slot stands =
-                let at' : place ≡ table_word pages stands.0 (g % 512) = stands.2 in
-                let here : stands.0 ≡ q = omega arith in
-                unnamed root (InMiddle (g / 512)) owned.root_is (omega arith) (stands.1 ∙ ap next_table here)
-    own_owned (Maps p s none is p-below behind) =
-        plain_owned (λ q named. let e = sym none ∙ named in absurd (omega arith)) (λ q named. present_next p s q (sym is ∙ named))
-        (λ g k shared g-low k-low stands named.
-        let same = present_named k shared word p s is named in
-        subst (λ x. (x < pages) × IsBehindLeaf words tvm x shared) (sym same.0) (p-below, subst (IsBehindLeaf words tvm p) (sym same.1) behind))
-    own_owned (Blocks p s r g p-small was is root_is g-low stands before) =
-        plain_owned (λ q named. present_next p s q (sym was ∙ named)) (λ q named. blocked_next p s (number_in pages harts words tvm) q (sym (is ∙ ap (λ w. blocked w (number_in pages harts words tvm)) was) ∙ named))
-        (λ k x shared k-low x-low at_k named.
-        let same = blocked_named x shared word p s (number_in pages harts words tvm) x-low p-small (is ∙ ap (λ w. blocked w (number_in pages harts words tvm)) was) named in
-        let leaf : leaf_at pages root words k ≡ present p s = entry-stands pages root words (InLast k) place at_k ∙ was in
-        owned.backed k x shared k-low x-low
-        (subst (λ t. Names x t (leaf_at pages root words k)) (sym same.1) (subst (λ y. Names y s (leaf_at pages root words k)) (sym same.0) (ByPresent leaf))))
-    own_owned (Unblocks p s since p-small was is) =
-        plain_owned (λ q named. blocked_next p s since q (sym was ∙ named)) (λ q named. present_next p s q (sym is ∙ named))
-        (λ k x shared k-low x-low at_k named.
-        let same = present_named x shared word p s is named in
-        let leaf : leaf_at pages root words k ≡ blocked (present p s) since = entry-stands pages root words (InLast k) place at_k ∙ was in
-        owned.backed k x shared k-low x-low
-        (subst (λ t. Names x t (leaf_at pages root words k)) (sym same.1) (subst (λ y. Names y s (leaf_at pages root words k)) (sym same.0) (ByBlocked since leaf))))
-    own_owned (Unmaps p s since p-small was is fenced above) =
-        plain_owned (λ q named. blocked_next p s since q (sym was ∙ named)) (λ q named. let e = sym is ∙ named in absurd (omega arith))
-        (λ k x shared k-low x-low at_k named. absurd (none_named x shared word is named))
-    own_owned (Rewrites left) = absurd (not_left tvm refl left)
+        counted : (n : ℕ) → word ≡ host n → (shared : Bool) → IsBehindLeaf words tvm page shared → (n ≡ 0 → ⊥) → IsBehindLeaf (set words page word) tvm page shared
+        counted n is false behind some = absurd (given_host tvm before Data (sym behind ∙ was))
+        counted n is true behind some = (n, omega (arith, some), get_or-set_same words page word 0 (omega arith) ∙ is)
+    page_owned (Converts then now new) =
+        page_stored pages words tvm root owned page word inside
+        (λ e. given_host tvm 0 Root (sym e ∙ now)) (λ e. let is = sym e ∙ new in absurd (omega arith)) (λ e. given_host tvm 0 Table (sym e ∙ now))
+        (λ a shared slot named behind. absurd (not_behind words tvm page shared (λ e. given_host tvm 0 Data (sym e ∙ now)) (λ maps some e. let is = sym e ∙ now in absurd (omega arith)) behind))
+        (omega arith)
+    page_owned (Frees free new) = free_owned free (λ e. elim new [ inl is ↦ given_host tvm 0 Root (sym e ∙ is) | inr is ↦ let x = sym e ∙ is in absurd (omega arith) ])
+    page_owned (Gives u role low high free new left) = free_owned free (λ e. as_root role left (sym new ∙ e))
+      where
+        as_root : (role : Role) → (role ≡ Root → IsLeft pages harts words u) → given u role ≡ given tvm Root → ⊥
+        as_root Root left e = not_left (subst (IsLeft pages harts words) (given_number u tvm Root Root e) (left refl))
+        as_root Table left e = absurd (omega (arith, given_role u tvm Table Root e))
+        as_root Data left e = absurd (omega (arith, given_role u tvm Data Root e))
+        as_root State left e = absurd (omega (arith, given_role u tvm State Root e))
+        as_root Vcpu left e = absurd (omega (arith, given_role u tvm Vcpu Root e))
+    page_owned (TakesBack u role was new left) =
+        page_stored pages words tvm root owned page word inside
+        (others Root) (λ e. let is = sym e ∙ new in absurd (omega arith)) (others Table)
+        (λ a shared slot named behind. absurd (not_behind words tvm page shared (others Data) (λ maps some e. given_host u maps role (sym was ∙ e)) behind))
+        (omega arith)
+      where
+        others : (r : Role) → get_or words page 0 ≢ given tvm r
+        others r e = not_left (subst (IsLeft pages harts words) (given_number u tvm role r (sym was ∙ e)) left)
+    page_owned (Removes u was new none) =
+        page_stored pages words tvm root owned page word inside
+        (λ e. absurd (omega (arith, given_role u tvm Data Root (sym was ∙ e)))) (λ e. let is = sym e ∙ new in absurd (omega arith))
+        (λ e. absurd (omega (arith, given_role u tvm Data Table (sym was ∙ e))))
+        (λ a shared slot named behind. absurd (not_behind words tvm page shared
+        (λ e. none (subst (λ t. LeafNames pages words t page) (sym (given_number u tvm Data Data (sym was ∙ e))) (named_by a shared slot named)))
+        (λ maps some e. given_host u maps Data (sym was ∙ e)) behind))
+        (omega arith)
 
-  table_owned : (u page i : ℕ) → page < pages → i < 512 → place ≡ table_word pages page i → IsTableOf words u page → TableChange pages harts words u old place (get_or words place 0) word → AreOwned pages after_store tvm root
-  table_owned u page i below low at of change = elim (cases_eq u tvm) [
-    | inl same ↦ own_owned page i below low at (subst (λ t. TableChange pages harts words t old place (get_or words place 0) word) same change)
-    | inr ne ↦ foreign_owned u page i below low at of ne
-  ]
+  -- ---- every lawful store
 
-  -- the page that a leaf of the TVM names is named
-  named_by : (p : ℕ) → p ≡ place → (g : ℕ) (shared : Bool) → g < 2 ^ 29 → Names place shared (leaf_at pages root words g) → LeafNames pages words tvm p
-  named_by p same g shared low named = (root, owned.root_is, (g, low, (shared, subst (λ x. Names x shared (leaf_at pages root words g)) (sym same) named)))
-
-  free_owned : place < pages → FreeStands harts (answered_in pages words) (get_or words place 0) → word ≢ given tvm Root → AreOwned pages after_store tvm root
-  free_owned below free new =
-      page_stored pages words tvm root owned place word below
-      (free_given _ tvm Root free) new (free_given _ tvm Table free)
-      (λ g shared low named was. absurd (not_behind words tvm place shared (free_given _ tvm Data free) (λ maps some. free_host _ maps free) was))
-      (omega arith)
-
-  pub owned_store : IsLawful pages harts hart old words place word → AreOwned pages after_store tvm root
-  owned_store (Counts page before after below at was new few) =
-      page_stored pages words tvm root owned place word (omega arith)
-      (λ e. given_host tvm before Root (sym e ∙ was)) (λ e. given_host tvm after Root (sym e ∙ new)) (λ e. given_host tvm before Table (sym e ∙ was))
-      (λ g shared low named behind. counted after new shared behind (few_of g shared low named))
-      (omega arith)
-    where
-      few_of : (g : ℕ) (shared : Bool) → g < 2 ^ 29 → Names place shared (leaf_at pages root words g) → after ≡ 0 → ⊥
-      few_of g shared low named none = few none tvm (named_by page (sym at) g shared low named)
-
-      counted : (n : ℕ) → word ≡ host n → (shared : Bool) → IsBehindLeaf words tvm place shared → (n ≡ 0 → ⊥) → IsBehindLeaf after_store tvm place shared
-      counted n is false behind some = absurd (given_host tvm before Data (sym behind ∙ was))
-      counted n is true behind some = (n, omega (arith, some), get_or-set_same words place word 0 (omega arith) ∙ is)
-  owned_store (Converts page below at then now new) =
-      page_stored pages words tvm root owned place word (omega arith)
-      (λ e. given_host tvm 0 Root (sym e ∙ now)) (λ e. let is = sym e ∙ new in absurd (omega arith)) (λ e. given_host tvm 0 Table (sym e ∙ now))
-      (λ g shared low named behind. absurd (not_behind words tvm place shared (λ e. given_host tvm 0 Data (sym e ∙ now)) (λ maps some e. let is = sym e ∙ now in absurd (omega arith)) behind))
-      (omega arith)
-  owned_store (Frees page below at free new) =
-      free_owned (omega arith) (subst (λ p. FreeStands harts (answered_in pages words) (get_or words p 0)) (sym at) free)
-      (λ e. elim new [ inl is ↦ given_host tvm 0 Root (sym e ∙ is) | inr is ↦ let x = sym e ∙ is in absurd (omega arith) ])
-  owned_store (Gives page u role below low high at free new left) =
-      free_owned (omega arith) (subst (λ p. FreeStands harts (answered_in pages words) (get_or words p 0)) (sym at) free)
-      (λ e. as_root role left (sym new ∙ e))
-    where
-      as_root : (role : Role) → (role ≡ Root → IsLeft pages harts words u) → given u role ≡ given tvm Root → ⊥
-      as_root Root left e = not_left u (given_number u tvm Root Root e) (left refl)
-      as_root Table left e = absurd (omega (arith, given_role u tvm Table Root e))
-      as_root Data left e = absurd (omega (arith, given_role u tvm Data Root e))
-      as_root State left e = absurd (omega (arith, given_role u tvm State Root e))
-      as_root Vcpu left e = absurd (omega (arith, given_role u tvm Vcpu Root e))
-  owned_store (TakesBack page u role below at was new left) =
-      page_stored pages words tvm root owned place word (omega arith)
-      (λ e. not_left u (given_number u tvm role Root (sym was ∙ e)) left) (λ e. let is = sym e ∙ new in absurd (omega arith))
-      (λ e. not_left u (given_number u tvm role Table (sym was ∙ e)) left)
-      (λ g shared low named behind. absurd (not_behind words tvm place shared (λ e. not_left u (given_number u tvm role Data (sym was ∙ e)) left) (λ maps some e. given_host u maps role (sym was ∙ e)) behind))
-      (omega arith)
-  owned_store (Removes page u below at was new none) =
-      page_stored pages words tvm root owned place word (omega arith)
-      (λ e. absurd (omega (arith, given_role u tvm Data Root (sym was ∙ e)))) (λ e. let is = sym e ∙ new in absurd (omega arith))
-      (λ e. absurd (omega (arith, given_role u tvm Data Table (sym was ∙ e))))
-      (λ g shared low named behind. absurd (not_behind words tvm place shared
-      (λ e. none (subst (λ t. LeafNames pages words t page) (sym (given_number u tvm Data Data (sym was ∙ e))) (named_by page (sym at) g shared low named)))
-      (λ maps some e. given_host u maps Data (sym was ∙ e)) behind))
-      (omega arith)
-  owned_store (ChangesTable u page i below low at of change) = table_owned u page i below low at of change
-  owned_store (Answers is at new) = beside_owned (omega arith) (omega arith)
-  owned_store (Begins at room new all) = beside_owned (omega arith) (omega arith)
-  owned_store (FencesTvm u low high at room new all) = beside_owned (omega arith) (omega arith)
-  owned_store (Enters u r is low high at out new enters) = beside_owned (omega arith) (omega arith)
-  owned_store (Leaves u is at here new) = beside_owned (omega arith) (omega arith)
+  pub owned_store : {hart : ℕ} → IsLawful pages harts hart old words place word → AreOwned pages (set words place word) tvm root
+  owned_store (ChangesPage page is at change) = subst (λ p. AreOwned pages (set words p word) tvm root) (sym at) (page_owned page is change)
+  owned_store (ChangesTable u page i is under at of change) = touched_owned (omega arith) (table_touches page i is under at u of change)
+  owned_store (Answers is at new) = touched_owned (omega arith) (Apart (high_apart (omega arith)))
+  owned_store (Begins at room new all) = touched_owned (omega arith) (Apart (high_apart (omega arith)))
+  owned_store (FencesTvm u low high at room new all) = touched_owned (omega arith) (Apart (high_apart (omega arith)))
+  owned_store (ChangesHart is at change) = touched_owned (omega arith) (Apart (high_apart (omega arith)))
 
 pub stores_keep_owned : StoresKeepOwned
 stores_keep_owned pages harts hart other old words place word tvm root small size on inside owned lawful =
-    owned_store pages harts hart other old words place word tvm root small size on inside owned lawful
+    owned_store pages harts old words place word tvm root size owned (λ left. left other on inside) lawful

@@ -3,14 +3,14 @@ use Rattle.std.proofs.Common.{◌≡◌, ℕ, zero, suc, ◌<◌, ◌≤◌, Boo
 use Rattle.std.proofs.lemmas.Bool.{cases_Bool, cases_eq, cond-true, cond-false, cond_both, ne_eqb}
 use Rattle.std.proofs.lemmas.Option.{same_Some}
 use Rattle.cove_base.proofs.ScriptLimits.{Limits}
-use Rattle.cove_model.specs.Machine.{next_line, ScriptValue, Entry, Event, How, Hit, Walk, Target, harts_below, Seat, State, ended_by, IsCached, IsReached, ReachesWhere, WasFound, Legal, after, Offer, Nothing, Behind, Single, Touch, cpu_of, is_found, may_succeed, offer, sought, Note, Unwalked, WalkFound, WalkMissed, Play, ended_event, ending, enough, entered, entry_by, entry_turn, noted, played_out, round, rounds, sought_turn, turn, unplayed, walked, walks_first, Allows, Takes, done, holds_target, tlb}
+use Rattle.cove_model.specs.Machine.{next_line, ScriptValue, Entry, Event, How, Hit, Walk, Target, harts_below, Seat, State, deed_of, ended_by, guest_limit, guests_in, IsCached, IsReached, ReachesWhere, WasFound, Legal, after, Offer, Nothing, Behind, Single, Touch, cpu_of, is_found, may_succeed, offer, sought, Note, Unwalked, WalkFound, WalkMissed, Play, ended_event, ending, enough, entered, entry_by, entry_turn, noted, played_out, round, rounds, sought_turn, turn, unplayed, walked, walks_first, Allows, Takes, done, holds_target, tlb}
 use Rattle.cove_model.proofs.Aiming.{Shows, aim_still, offer_shows, sought_aims}
-use Rattle.cove_model.specs.Aims.{aimed_at, next_aim}
+use Rattle.cove_model.specs.Aims.{aim, aimed_at, next_aim}
 use Rattle.cove_model.proofs.AtTheEnd.{after_push, each_push, ended_other, legal_push, line_seats, own_alone, own_other}
 use Rattle.cove_model.proofs.EventMoves.{seat_other}
 use Rattle.cove_model.proofs.Histories.{entry_on_board, usable}
 use Rattle.cove_model.proofs.Holding.{able_succeeds, found_able, held_since, holds_able}
-use Rattle.cove_model.proofs.Running.{still_since}
+use Rattle.cove_model.proofs.Running.{mode_apart, still_since}
 use Rattle.cove_model.specs.Played.{played}
 
 -- a walk that found its target did so since the hart's last entry, and the hart looks for it
@@ -74,7 +74,9 @@ module _ (script : ScriptValue) (limits : Limits script) where
 
       go : (o : Option Seat) → (after script H).seats h ≡ o → aimed_at script (after script (H ++ e ∷ [])) h o ≡ aimed_at script (after script H) h o
       go None sits = ap (λ n. next_aim (next_line script h n)) (ap (λ (X : State). ended_by X h) (after_push script H e) ∙ ended_other (after script H) e.hart.0 h e.event ne)
-      go (Some seat) sits = aim_still (cpu_of (after script H) seat) (cpu_of (after script (H ++ e ∷ [])) seat) (still_since script limits H (e ∷ []) h seat lt sits front legal (own_alone e h (λ q. ne (sym q))))
+      go (Some seat) sits =
+          ap (λ mode. aim (guest_limit mode) (deed_of (cpu_of (after script (H ++ e ∷ [])) seat))) (mode_apart script limits H e h seat lt sits front)
+          ∙ aim_still (guests_in (after script H) seat.tvm) (cpu_of (after script H) seat) (cpu_of (after script (H ++ e ∷ [])) seat) (still_since script limits H (e ∷ []) h seat lt sits front legal (own_alone e h (λ q. ne (sym q))))
 
   -- ---- an entry keeps a play fitting
 

@@ -1,9 +1,9 @@
 -- Turns get on: every script is played to its end, or to the limit.
-use Rattle.std.proofs.Common.{◌≡◌, ◌≢◌, ℕ, zero, suc, ◌+◌, ◌*◌, ◌^◌, ◌<◌, ◌≤◌, Bool, true, false, cond, nat_lt, ltb-true, lt-ltb, fold, length, List, [], ◌∷◌, Option, Some, None, refl, sym, ap, subst, ◌∙◌, inl, inr, ◌⊎◌, ⊎_elim, arith}
+use Rattle.std.proofs.Common.{◌≡◌, ◌≢◌, ℕ, zero, suc, ◌+◌, ◌*◌, ◌<◌, ◌≤◌, Bool, true, false, cond, nat_lt, ltb-true, lt-ltb, fold, length, List, [], ◌∷◌, Option, Some, None, refl, sym, ap, subst, ◌∙◌, inl, inr, ◌⊎◌, ⊎_elim, arith}
 use Rattle.std.specs.List.{AllByRecursion, range_with_len}
 use Rattle.std.proofs.lemmas.Bool.{cases_eq, cases_lt, cond-true, cond_both}
 use Rattle.std.proofs.lemmas.List.{length_push}
-use Rattle.cove_model.specs.Machine.{next_line, ScriptValue, Event, How, Line, ScriptLine, Target, has, harts_below, Seat, State, ended_by, Deed, Tires, Fetches, Executes, Loads, Stores, Asks, Waits, Traps, deed_of, after, Offer, Nothing, Behind, Single, Touch, access_target, cpu_of, deed_offer, fault_exit, fetch_target, first_behind, guest_touch, is_behind, is_earlier, is_found, kicked_offer, line_offer, offer, outside_offer, sought, unkicked_offer, unless_behind, IsEnded, Note, Unwalked, WalkFound, WalkMissed, Play, ended_event, ending, enough, entered, entry_by, entry_turn, noted, round, rounds, sought_turn, turn, unplayed, walked, walks_first, holds_target, tlb}
+use Rattle.cove_model.specs.Machine.{next_line, ScriptValue, Event, How, Line, ScriptLine, Target, has, harts_below, Seat, State, ended_by, guests_in, Deed, Tires, Fetches, Executes, Loads, Stores, Asks, Waits, Traps, deed_of, after, Offer, Nothing, Behind, Single, Touch, access_target, cpu_of, deed_offer, fault_exit, fetch_target, first_behind, guest_touch, is_behind, is_earlier, is_found, kicked_offer, line_offer, offer, outside_offer, sought, unkicked_offer, unless_behind, IsEnded, Note, Unwalked, WalkFound, WalkMissed, Play, ended_event, ending, enough, entered, entry_by, entry_turn, noted, round, rounds, sought_turn, turn, unplayed, walked, walks_first, holds_target, tlb}
 use Rattle.cove_base.specs.declared.scripts.Line.TheVariants as lines
 use Rattle.cove_model.proofs.Members.{below_has, false-true}
 use Rattle.cove_model.proofs.Sums.{find_some, harts_are_below, sum_below, sum_changed}
@@ -159,8 +159,8 @@ earlier_line phase None e = false-true e
 earlier_line phase (Some l) e = (l, refl, ltb-true l.phase phase e)
 
 -- a hart inside can go on
-touch_moves : (target : Target) (success : How → Event) (cause addr : ℕ) → Moves (guest_touch target success cause addr)
-touch_moves target success cause addr = go (nat_lt addr (2 ^ 41))
+touch_moves : (guests : ℕ) (target : Target) (success : How → Event) (cause addr : ℕ) → Moves (guest_touch guests target success cause addr)
+touch_moves guests target success cause addr = go (nat_lt addr (4096 * guests))
   where
     go : (b : Bool) → Moves (cond b (Touch target success (fault_exit cause addr)) (Single (fault_exit cause addr)))
     go true = tt
@@ -168,10 +168,10 @@ touch_moves target success cause addr = go (nat_lt addr (2 ^ 41))
 
 deed_moves : (S : State) (h : ℕ) (seat : Seat) (deed : Deed) → Moves (deed_offer S h seat deed)
 deed_moves S h seat Tires = tt
-deed_moves S h seat (Fetches addr) = touch_moves (fetch_target addr) (λ how. Event.Fetch how) 20 addr
+deed_moves S h seat (Fetches addr) = touch_moves (guests_in S seat.tvm) (fetch_target addr) (λ how. Event.Fetch how) 20 addr
 deed_moves S h seat (Executes rd value pc file) = tt
-deed_moves S h seat (Loads addr size signed rd) = touch_moves (access_target addr) (λ how. Event.Access how) 21 addr
-deed_moves S h seat (Stores addr size value) = touch_moves (access_target addr) (λ how. Event.Access how) 23 addr
+deed_moves S h seat (Loads addr size signed rd) = touch_moves (guests_in S seat.tvm) (access_target addr) (λ how. Event.Access how) 21 addr
+deed_moves S h seat (Stores addr size value) = touch_moves (guests_in S seat.tvm) (access_target addr) (λ how. Event.Access how) 23 addr
 deed_moves S h seat (Asks act) = tt
 deed_moves S h seat Waits = tt
 deed_moves S h seat (Traps cause) = tt

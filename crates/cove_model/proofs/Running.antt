@@ -2,13 +2,14 @@
 use Rattle.std.proofs.Common.{◌≡◌, ℕ, ◌<◌, List, [], ◌∷◌, ◌++◌, Option, None, Some, unwrap_or, refl, sym, ap, subst, ◌∙◌, append-nil, append_assoc}
 use Rattle.std.proofs.lemmas.Option.{none-some}
 use Rattle.cove_base.proofs.ScriptLimits.{Limits}
-use Rattle.cove_model.specs.Machine.{ScriptValue, Entry, Legal, after, own, cpu_of, IsOn, IsSeated, IsStill, Seat, State, cpu_at, ended_by, new_cpu, opening, after_event, done, Cpu, Tvm, new_tvm}
+use Rattle.cove_model.specs.Machine.{ScriptValue, Entry, Legal, after, own, cpu_of, IsOn, IsSeated, IsStill, Seat, State, at, cpu_at, ended_by, mode_in, new_cpu, opening, after_event, done, Cpu, Tvm, new_tvm}
 use Rattle.cove_model.proofs.AtTheEnd.{after_push, ended_other, from_end, legal_front, legal_last, line_seats, line_tvms}
 use Rattle.cove_model.proofs.Cpus.{TvmStays, still_refl, still_then, tvm_stays, tvm_then}
 use Rattle.cove_model.proofs.EventMoves.{seat_other}
 use Rattle.cove_model.proofs.Histories.{after_harts, entry_on_board}
 use Rattle.cove_model.proofs.Holding.{silent_parts}
-use Rattle.cove_model.proofs.Seating.{seated_event, still_done}
+use Rattle.cove_model.proofs.KeepingCalls.{Sits}
+use Rattle.cove_model.proofs.Seating.{mode_done, seated_event, still_done}
 
 -- a board of which no hart is inside is seated
 pub none_seated : (S : State) → ((h : ℕ) → S.seats h ≡ None) → IsSeated S
@@ -61,17 +62,32 @@ module _ (script : ScriptValue) (limits : Limits script) where
       (λ legal s. subst (λ front. Keeps (after script H) (after script front) h seat) (sym (append-nil H))
       (record { sits = sits; stays = tvm_stays IsStill still_refl seat.tvm seat.cpu (after script H).tvms }))
 
+  -- a hart that sits is on a vCPU
+  pub seat_on : (H : List Entry) (h : ℕ) (seat : Seat) → h < script.harts → (after script H).seats h ≡ Some seat → Legal script H → IsOn (after script H) seat
+  seat_on H h seat lt sits legal = (seated H legal).on h seat (subst (λ n. h < n) (sym (after_harts script H)) lt) sits
+
   -- what other harts do leaves the vCPU that a hart runs
   pub still_since : (H since : List Entry) (h : ℕ) (seat : Seat) → h < script.harts → (after script H).seats h ≡ Some seat → Legal script H
       → Legal script (H ++ since) → own since h ≡ [] → IsStill (cpu_of (after script H) seat) (cpu_of (after script (H ++ since)) seat)
   still_since H since h seat lt sits front legal silent =
       let k = keeps_since H h seat lt sits since legal silent in
-      let on = (seated H front).on h seat (subst (λ n. h < n) (sym (after_harts script H)) lt) sits in
+      let on = seat_on H h seat lt sits front in
       let a = k.stays on.tvm on.live in
       let b = a.stay on.cpu on.there on.runs in
       let later : IsOn (after script (H ++ since)) seat = record { tvm = a.now; live = a.live; runs = b.runs; cpu = b.now; there = b.there } in
       subst (λ c. IsStill c (cpu_of (after script (H ++ since)) seat)) (sym (cpu_there (after script H) seat on))
       (subst (IsStill on.cpu) (sym (cpu_there (after script (H ++ since)) seat later)) b.kept)
+
+  -- and an entry of any hart the mode of its TVM
+  pub mode_apart : (H : List Entry) (e : Entry) (h : ℕ) (seat : Seat) → h < script.harts → (after script H).seats h ≡ Some seat → Legal script H
+      → mode_in (after script (H ++ e ∷ [])) seat.tvm ≡ mode_in (after script H) seat.tvm
+  mode_apart H e h seat lt sits legal =
+      let S = after script H in
+      let D = done S e.hart.0 e.event in
+      let sat : Sits S h seat = record { on_board = subst (λ n. h < n) (sym (after_harts script H)) lt; sits = sits } in
+      ap (λ (T : State). mode_in T seat.tvm) (after_push script H e)
+      ∙ ap (λ tvms. (unwrap_or (at (λ (tvm : Tvm). tvm.number) seat.tvm tvms) (new_tvm seat.tvm)).mode) (line_tvms e.hart.0 (D.seats e.hart.0) D)
+      ∙ mode_done S h seat sat (seat_on H h seat lt sits legal) e.hart.0 e.event
 
 -- ---- an entry of another hart, of any history
 

@@ -2,7 +2,7 @@
 use Rattle.std.proofs.Common.{◌≡◌, ℕ, ◌+◌, ◌<◌, true, false, eqb, true≢false, map, List, [], ◌∷◌, Option, Some, None, is_some, is_none, unwrap_or, option_map, refl, sym, ap, subst, ◌∙◌, inl, inr, ◌⊎◌, ⊎_elim}
 use Rattle.std.proofs.lemmas.Bool.{cases_eq, ne_eqb}
 use Rattle.std.proofs.lemmas.Option.{none-some, same_Some}
-use Rattle.cove_model.specs.Machine.{HostCall, Convert, Run, Event, Reply, Owner, has, Seat, State, board_in, find_cpu, find_tvm, harts_inside, new_cpu, on_cpu, runner, tvm_at, refusal, state_by, rule, at, left_unbinding, rebound, IsOn, IsSeated, IsStill, after_event, done, done_at, end_line, guest_done, host_done, left_by, line_ended, Cpu, Tvm, Unbinding, created, new_tvm}
+use Rattle.cove_model.specs.Machine.{HostCall, Convert, Run, Event, Reply, Owner, has, Seat, State, board_in, find_cpu, find_tvm, harts_inside, new_cpu, on_cpu, mode_in, runner, tvm_at, refusal, state_by, rule, at, left_unbinding, rebound, IsOn, IsSeated, IsStill, after_event, done, done_at, end_line, guest_done, host_done, left_by, line_ended, Cpu, Mode, Tvm, Unbinding, created, new_tvm}
 use Rattle.cove_base.specs.declared.events.Event.TheVariants as events
 use Rattle.cove_base.specs.declared.events.Exit.{Exit}
 use Rattle.cove_model.proofs.Cpus.{AllStay, Anyhow, TvmStays, none_runs, stay_append, stay_map, stay_on_cpu, stay_same, stay_then, still_refl, still_then, tvm_altered, tvm_stays, tvm_then}
@@ -49,23 +49,30 @@ module _ (R : Cpu → Cpu → Type 0) (refl_R : (cpu : Cpu) → R cpu cpu) (then
 
   stays_one : (Calm : Type 0) (pages : List Owner) (xs ys : List Tvm) → OneTvm Calm S pages h xs ys → TvmStays R u v xs ys
   stays_one Calm pages xs ys (NoTvm e) = subst (TvmStays R u v xs) (sym e) (tvm_stays R refl_R u v xs)
-  stays_one Calm pages xs ys (Alters t how e numbers each) = subst (TvmStays R u v xs) (sym e)
-      (tvm_altered R refl_R u v t how numbers xs (λ is tvm live. stays_cpus _ t tvm (how tvm) is live (runs_on _ tvm (how tvm) (each tvm).measures) (each tvm).cpus))
+  stays_one Calm pages xs ys (Alters t how e names each) = subst (TvmStays R u v xs) (sym e)
+      (tvm_altered R refl_R u v t how (λ tvm. (names tvm).0) (λ tvm. (names tvm).1) xs (λ is tvm live. stays_cpus _ t tvm (how tvm) is live (runs_on _ tvm (how tvm) (each tvm).measures) (each tvm).cpus))
 
   -- what stays of a vCPU of a TVM that is not empty
   stays_tvms : (Calm : Type 0) (T : State) → (harts_inside S u ≡ [] → ⊥) → TvmsChange Calm S T h → TvmStays R u v S.tvms T.tvms
   stays_tvms Calm T some (Once made one) = stays_one Calm T.pages S.tvms T.tvms one
   stays_tvms Calm T some (Twice made mid one two bound) = tvm_then R then_R u v S.tvms mid T.tvms (stays_one Calm T.pages S.tvms mid one) (stays_one Calm T.pages mid T.tvms two)
-  stays_tvms Calm T some (Grows made e) = λ tvm live. record {
+  stays_tvms Calm T some (Grows mode made e) = λ tvm live. record {
     now = tvm;
-    live = ap (at (λ (x : Tvm). x.number) u) e ∙ at_append (λ (x : Tvm). x.number) u S.tvms (created (S.made + 1) (board_in S) ∷ []) tvm live;
+    live = ap (at (λ (x : Tvm). x.number) u) e ∙ at_append (λ (x : Tvm). x.number) u S.tvms (created (S.made + 1) mode (board_in S) ∷ []) tvm live;
+    mode = refl;
     stay = stay_same R refl_R v tvm tvm refl (λ on. on);
   }
   stays_tvms Calm T some (Loses t made e pages nobody restless) = λ tvm live. record {
     now = tvm;
     live = ap (at (λ (x : Tvm). x.number) u) e ∙ at_dropped (λ (x : Tvm). x.number) (λ n. eqb n t) u (ne_eqb u t (λ is. some (ap (harts_inside S) is ∙ nobody))) S.tvms ∙ live;
+    mode = refl;
     stay = stay_same R refl_R v tvm tvm refl (λ on. on);
   }
+
+-- in whatever way its vCPUs change
+anyhow_stays : (S T : State) (h : ℕ) (seat : Seat) → (harts_inside S seat.tvm ≡ [] → ⊥) → TvmsChange ⊥ S T h → TvmStays Anyhow seat.tvm seat.cpu S.tvms T.tvms
+anyhow_stays S T h seat =
+    stays_tvms Anyhow (λ cpu. tt) (λ one two three a b. tt) (λ how cpu. tt) S h seat.tvm seat.cpu (λ t w how spares is it cpu. tt) ⊥ T
 
 -- a hart that sits in a TVM is inside
 not_empty : (S : State) (h : ℕ) (seat : Seat) → Sits S h seat → harts_inside S seat.tvm ≡ [] → ⊥
@@ -78,6 +85,13 @@ pub still_done : (S : State) → IsSeated S → (h : ℕ) (seat : Seat) → Sits
 still_done S seated_S h seat sits k event lt ne =
     stays_tvms IsStill still_refl still_then (λ how cpu. record { x = refl; pc = refl; latched = refl; fuel = refl }) S k seat.tvm seat.cpu
     (λ t w how spares is it. spares seated_S lt h seat sits.on_board sits.sits ne (is) (it)) ⊥ (done S k event) (not_empty S h seat sits) (change_done S k event)
+
+-- an event leaves the mode of a TVM that a hart sits in
+pub mode_done : (S : State) (h : ℕ) (seat : Seat) → Sits S h seat → IsOn S seat → (k : ℕ) (event : Event) → mode_in (done S k event) seat.tvm ≡ mode_in S seat.tvm
+mode_done S h seat sits on k event =
+    let mode : Option Tvm → Mode = λ o. (unwrap_or o (new_tvm seat.tvm)).mode in
+    let now = anyhow_stays S (done S k event) k seat (not_empty S h seat sits) (change_done S k event) on.tvm on.live in
+    ap mode now.live ∙ now.mode ∙ sym (ap mode on.live)
 
 -- ---- the seats after an event
 
@@ -154,7 +168,7 @@ placed S seated_S k event lt seat = go (S.seats k) refl
         let was : S.seats k ≡ Some seat = e ∙ ap (λ (s : Seat). Some s) same in
         record {
           on = on_after Anyhow S (guest_done S k other event) seat (seated_S.on k seat lt was)
-              (stays_tvms Anyhow (λ cpu. tt) (λ a b c x y. tt) (λ i cpu. tt) S k seat.tvm seat.cpu (λ t w how spares is it cpu. tt) ⊥ (guest_done S k other event)
+              (anyhow_stays S (guest_done S k other event) k seat
               (not_empty S k seat (record { on_board = lt; sits = was })) (change_guest ⊥ S k other event (λ c. absurd c) e).tvms);
           before = inl was;
         }

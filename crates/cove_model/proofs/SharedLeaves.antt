@@ -1,7 +1,6 @@
 -- How the count of leaves that name a page as shared moves with a store.
-use Rattle.std.proofs.Common.{◌≡◌, ℕ, zero, suc, ◌+◌, ◌-◌, ◌*◌, ◌<◌, ◌≤◌, Bool, true, false, cond, List, [], ◌∷◌, count_by, drop, get_or, length, set, take, refl, sym, ◌∙◌, ap, inl, inr, ◌⊎◌, arith}
+use Rattle.std.proofs.Common.{◌≡◌, ℕ, zero, suc, ◌+◌, ◌*◌, ◌<◌, ◌≤◌, Bool, cond, List, [], ◌∷◌, count_by, drop, get_or, length, set, take, refl, sym, ◌∙◌, ap, inl, inr, ◌⊎◌, arith}
 use Rattle.std.proofs.lemmas.List.Sums.{count_by-le-length, sum_by-cons}
-use Rattle.cove_base.specs.Places.{all_words}
 use Rattle.cove_model.specs.TableLaw.{StoresCountShared, is_shared_leaf}
 
 abbrev flag : Bool → ℕ

@@ -147,15 +147,15 @@ on_pages pages S = record S { pages = pages }
 sound_one : (Calm : Type 0) (S : State) (pages : List Owner) (h : ℕ) (xs ys : List Tvm) → IsSound S → OneTvm Calm S pages h xs ys
     → AllByRecursion (IsSoundTvm (on_pages pages S)) xs → AllByRecursion (IsSoundTvm (on_pages pages S)) ys
 sound_one Calm S pages h xs ys sound (NoTvm e) all = subst (AllByRecursion (IsSoundTvm (on_pages pages S))) (sym e) all
-sound_one Calm S pages h xs ys sound (Alters t how e numbers each) all = subst (AllByRecursion (IsSoundTvm (on_pages pages S))) (sym e)
-    (tvms_altered (on_pages pages S) t how numbers (λ tvm is. sound_maps Calm _ S pages h t tvm (how tvm) sound (each tvm).maps) xs all)
+sound_one Calm S pages h xs ys sound (Alters t how e names each) all = subst (AllByRecursion (IsSoundTvm (on_pages pages S))) (sym e)
+    (tvms_altered (on_pages pages S) t how (λ tvm. (names tvm).0) (λ tvm is. sound_maps Calm _ S pages h t tvm (how tvm) sound (each tvm).maps) xs all)
 
 sound_tvms : (Calm : Type 0) (S T : State) (h : ℕ) → IsSound S → TvmsChange Calm S T h
     → AllByRecursion (IsSoundTvm (on_pages T.pages S)) S.tvms → AllByRecursion (IsSoundTvm (on_pages T.pages S)) T.tvms
 sound_tvms Calm S T h sound (Once made one) all = sound_one Calm S T.pages h S.tvms T.tvms sound one all
 sound_tvms Calm S T h sound (Twice made mid one two bound) all = sound_one Calm S T.pages h mid T.tvms sound two (sound_one Calm S T.pages h S.tvms mid sound one all)
-sound_tvms Calm S T h sound (Grows made e) all =
-    subst (AllByRecursion (IsSoundTvm (on_pages T.pages S))) (sym e) (all_append (IsSoundTvm (on_pages T.pages S)) S.tvms (created (S.made + 1) (board_in S) ∷ []) all (tt, tt))
+sound_tvms Calm S T h sound (Grows mode made e) all =
+    subst (AllByRecursion (IsSoundTvm (on_pages T.pages S))) (sym e) (all_append (IsSoundTvm (on_pages T.pages S)) S.tvms (created (S.made + 1) mode (board_in S) ∷ []) all (tt, tt))
 sound_tvms Calm S T h sound (Loses t made e pages nobody restless) all = subst (AllByRecursion (IsSoundTvm (on_pages T.pages S))) (sym e)
     (all_filter (IsSoundTvm (on_pages T.pages S)) (IsSoundTvm (on_pages T.pages S)) (λ (tvm : Tvm). not (eqb tvm.number t)) (λ tvm kept each. each) S.tvms all)
 

@@ -1,6 +1,6 @@
 -- A lawful store, place by place.
-use Rattle.std.proofs.Common.{◌≡◌, ◌≢◌, ℕ, ◌+◌, ◌*◌, ◌<◌, ◌≤◌, ◌⊎◌, List, get_or, inl, inr, arith, get_or-set_other}
-use Rattle.cove_model.specs.Machine.{host, converting, given, IsHostWord, all_words, epoch_word, answered_word, hart_word, tvm_word, ENTRY_LIMIT, TVM_LIMIT, Role, Data, FreeStands, epoch_in, answered_in, IsLawful, Counts, Converts, Frees, Gives, TakesBack, Removes, ChangesTable, Answers, Begins, FencesTvm, Enters, Leaves}
+use Rattle.std.proofs.Common.{◌≡◌, ◌≢◌, ℕ, ◌+◌, ◌*◌, ◌<◌, ◌≤◌, ◌⊎◌, List, get_or, sym, subst, inl, inr, arith, get_or-set_other}
+use Rattle.cove_model.specs.Machine.{host, converting, given, IsHostWord, all_words, epoch_word, answered_word, hart_word, tvm_word, ENTRY_LIMIT, TVM_LIMIT, Role, Data, FreeStands, epoch_in, answered_in, IsLawful, ChangesPage, ChangesTable, Answers, Begins, FencesTvm, ChangesHart, PageChange, Counts, Converts, Frees, Gives, TakesBack, Removes}
 use Rattle.cove_model.proofs.StandLemmas.{set_cases}
 use Rattle.cove_model.specs.StoreLaw.{IsUsableWord, StoresKeepUsable, StoresKeepHost, StoresKeepAnswers, StoresKeepFences}
 
@@ -15,20 +15,14 @@ given_unused : (harts : ℕ) (numbers : ℕ → ℕ) (word tvm : ℕ) (role : Ro
 given_unused harts numbers word tvm role is = (λ host. omega arith, λ hart on may. grind arith)
 
 -- a store of a page word: the page is the host's then, or it goes into conversion and was the host's and not mapped, or it was unused
-next_word : {pages harts : ℕ} {hart : ℕ} {old words : List ℕ} {place word : ℕ} → IsLawful pages harts hart old words place word → place < pages
-    → IsHostWord word ⊎ (((word ≡ converting (epoch_in pages words)) × (get_or old place 0 ≡ host 0)) ⊎ IsUnused harts (answered_in pages words) (get_or words place 0))
-next_word (Counts page before after is at was new few) on = inl (after, new)
-next_word (Converts page is at was now new) on = inr (inl (new, was))
-next_word (Frees page is at free new) on = inr (inr (rw at (free_unused _ _ _ free)))
-next_word (Gives page tvm role is low high at free new left) on = inr (inr (rw at (free_unused _ _ _ free)))
-next_word (TakesBack page tvm role is at was new left) on = inr (inr (given_unused _ _ _ tvm role was))
-next_word (Removes page tvm is at was new none) on = inr (inr (given_unused _ _ _ tvm Data was))
-next_word (Answers is at new) on = absurd (omega arith)
-next_word (Begins at room new all) on = absurd (omega arith)
-next_word (ChangesTable tvm page i is below at of change) on = absurd (omega arith)
-next_word (FencesTvm tvm low high at room new all) on = absurd (omega arith)
-next_word (Enters tvm root is low high at out new owned) on = absurd (omega arith)
-next_word (Leaves tvm is at here new) on = absurd (omega arith)
+next_word : {pages harts : ℕ} {old words : List ℕ} {page word : ℕ} → PageChange pages harts old words page word
+    → IsHostWord word ⊎ (((word ≡ converting (epoch_in pages words)) × (get_or old page 0 ≡ host 0)) ⊎ IsUnused harts (answered_in pages words) (get_or words page 0))
+next_word (Counts before after was new few) = inl (after, new)
+next_word (Converts was now new) = inr (inl (new, was))
+next_word (Frees free new) = inr (inr (free_unused _ _ _ free))
+next_word (Gives tvm role low high free new left) = inr (inr (free_unused _ _ _ free))
+next_word (TakesBack tvm role was new left) = inr (inr (given_unused _ _ _ tvm role was))
+next_word (Removes tvm was new none) = inr (inr (given_unused _ _ _ tvm Data was))
 
 -- a store beside the page words, the answered numbers and the epoch: of a table, of the number of a TVM, which rises by one, or of a hart
 data IsBeside (pages harts : ℕ) (words : List ℕ) (place word : ℕ) : Type 0 where
@@ -38,19 +32,13 @@ data IsBeside (pages harts : ℕ) (words : List ℕ) (place word : ℕ) : Type 0
 
 -- a lawful store is one of a page word, of the number of its hart, of the epoch, or one beside them
 place_of : {pages harts : ℕ} {hart : ℕ} {old words : List ℕ} {place word : ℕ} → IsLawful pages harts hart old words place word
-    → (place < pages) ⊎ (((place ≡ answered_word pages hart) × (hart < harts) × (word ≡ epoch_in pages words)) ⊎ (((place ≡ epoch_word pages) × (epoch_in pages words < ENTRY_LIMIT) × (word ≡ epoch_in pages words + 1)) ⊎ IsBeside pages harts words place word))
-place_of (Counts page before after is at was new few) = inl (omega arith)
-place_of (Converts page is at was now new) = inl (omega arith)
-place_of (Frees page is at free new) = inl (omega arith)
-place_of (Gives page tvm role is low high at free new left) = inl (omega arith)
-place_of (TakesBack page tvm role is at was new left) = inl (omega arith)
-place_of (Removes page tvm is at was new none) = inl (omega arith)
+    → ((place < pages) × PageChange pages harts old words place word) ⊎ (((place ≡ answered_word pages hart) × (hart < harts) × (word ≡ epoch_in pages words)) ⊎ (((place ≡ epoch_word pages) × (epoch_in pages words < ENTRY_LIMIT) × (word ≡ epoch_in pages words + 1)) ⊎ IsBeside pages harts words place word))
+place_of {pages} {harts} {hart} {old} {words} {place} {word} (ChangesPage page is at change) = inl (omega arith, subst (λ p. PageChange pages harts old words p word) (sym at) change)
 place_of (ChangesTable tvm page i is below at of change) = inr (inr (inr (OfTable (omega arith) (omega arith))))
 place_of (Answers is at new) = inr (inl (at, is, new))
 place_of (Begins at room new all) = inr (inr (inl (at, room, new)))
 place_of (FencesTvm tvm low high at room new all) = inr (inr (inr (OfTvm tvm high at (omega arith))))
-place_of {pages} {harts} {hart} (Enters tvm root is low high at out new owned) = inr (inr (inr (OfHart hart is at)))
-place_of {pages} {harts} {hart} (Leaves tvm is at here new) = inr (inr (inr (OfHart hart is at)))
+place_of {pages} {harts} {hart} (ChangesHart is at change) = inr (inr (inr (OfHart hart is at)))
 
 -- one beside them is to none of them
 beside_apart : {pages harts : ℕ} {words : List ℕ} {place word : ℕ} → IsBeside pages harts words place word → (pages ≤ place) × (epoch_word pages ≢ place) × ((k : ℕ) → k < harts → answered_word pages k ≢ place)
@@ -66,12 +54,25 @@ beside_within (OfHart hart is at) = omega arith
 
 pub lawful_within : {pages harts : ℕ} {hart : ℕ} {old words : List ℕ} {place word : ℕ} → IsLawful pages harts hart old words place word → place < all_words pages harts
 lawful_within {pages} {harts} {hart} {old} {words} {place} {word} lawful = elim (place_of lawful) [
-  | inl page ↦ omega arith
+  | inl page ↦ let low = page.0 in omega arith
   | inr rest ↦ elim rest [
     | inl own ↦ let at : place ≡ answered_word pages hart = own.0 in let on : hart < harts = own.1 in omega arith
     | inr more ↦ elim more [
       | inl begun ↦ let at : place ≡ epoch_word pages = begun.0 in omega arith
       | inr beside ↦ beside_within beside
+    ]
+  ]
+]
+
+-- one of a page word changes it
+pub page_change : {pages harts : ℕ} {hart : ℕ} {old words : List ℕ} {place word : ℕ} → IsLawful pages harts hart old words place word → place < pages → PageChange pages harts old words place word
+page_change lawful low = elim (place_of lawful) [
+  | inl page ↦ page.1
+  | inr rest ↦ elim rest [
+    | inl own ↦ let at = own.0 in absurd (omega arith)
+    | inr more ↦ elim more [
+      | inl begun ↦ let at = begun.0 in absurd (omega arith)
+      | inr beside ↦ let past = (beside_apart beside).0 in absurd (omega arith)
     ]
   ]
 ]
@@ -83,7 +84,7 @@ stores_keep_answers pages harts hart old words place word size within lawful k o
     let epoch = set_cases words place word (epoch_word pages) (omega arith) in
     let number = set_cases words place word (answered_word pages k) (omega arith) in
     elim (place_of lawful) [
-      | inl page ↦ omega arith
+      | inl page ↦ let low = page.0 in omega arith
       | inr rest ↦ elim rest [
         | inl own ↦ let at : place ≡ answered_word pages hart = own.0 in let new : word ≡ epoch_in pages words = own.2 in omega arith
         | inr more ↦ elim more [
@@ -96,7 +97,7 @@ stores_keep_answers pages harts hart old words place word size within lawful k o
 -- a lawful store is none of the answered number of another hart
 pub answers_apart : {pages harts : ℕ} {hart : ℕ} {old words : List ℕ} {place word : ℕ} → IsLawful pages harts hart old words place word → (other : ℕ) → other < harts → other ≢ hart → answered_word pages other ≢ place
 answers_apart {pages} {harts} {hart} {old} {words} {place} {word} lawful other on ne = elim (place_of lawful) [
-  | inl page ↦ omega arith
+  | inl page ↦ let low = page.0 in omega arith
   | inr rest ↦ elim rest [
     | inl own ↦ let at : place ≡ answered_word pages hart = own.0 in omega arith
     | inr more ↦ elim more [
@@ -114,7 +115,7 @@ fence_stays (OfHart hart is at) t some few = inl (omega arith)
 -- the number of a TVM stays, or the store is of a number within the limit
 number_stays : {pages harts : ℕ} {hart : ℕ} {old words : List ℕ} {place word : ℕ} → IsLawful pages harts hart old words place word → (t : ℕ) → 1 ≤ t → t ≤ TVM_LIMIT → (tvm_word pages harts t ≢ place) ⊎ (word ≤ ENTRY_LIMIT)
 number_stays {pages} {harts} {hart} {old} {words} {place} {word} lawful t some few = elim (place_of lawful) [
-  | inl page ↦ inl (omega arith)
+  | inl page ↦ let low = page.0 in inl (omega arith)
   | inr rest ↦ elim rest [
     | inl own ↦ let at : place ≡ answered_word pages hart = own.0 in let on : hart < harts = own.1 in inl (omega arith)
     | inr more ↦ elim more [
@@ -131,7 +132,7 @@ stores_keep_fences pages harts hart old words place word size limit lawful = rec
       let most = limit.epoch in
       let epoch = set_cases words place word (epoch_word pages) (omega arith) in
       elim (place_of lawful) [
-        | inl page ↦ omega arith
+        | inl page ↦ let low = page.0 in omega arith
         | inr rest ↦ elim rest [
           | inl own ↦ let at : place ≡ answered_word pages hart = own.0 in omega arith
           | inr more ↦ elim more [
@@ -153,7 +154,7 @@ pub stores_keep_usable : StoresKeepUsable
 stores_keep_usable pages harts hart other old words place word p size within on ne inside lawful may =
     let there = lawful_within lawful in
     rw (get_or-set_other words place (answered_word pages other) word 0 ne) (elim (set_cases words place word p (omega arith)) [
-      | inl here ↦ rw here.1 (elim (next_word lawful (omega arith)) [
+      | inl here ↦ rw here.1 (elim (next_word (page_change lawful (omega arith))) [
         | inl is ↦ inl is
         | inr rest ↦ elim rest [
           | inl begun ↦ inr (epoch_in pages words, begun.0, within other on)
@@ -167,7 +168,7 @@ pub stores_keep_host : StoresKeepHost
 stores_keep_host pages harts hart old words place word p size inside lawful may =
     let there = lawful_within lawful in
     elim (set_cases words place word p (omega arith)) [
-      | inl here ↦ rw here.1 (elim (next_word lawful (omega arith)) [
+      | inl here ↦ rw here.1 (elim (next_word (page_change lawful (omega arith))) [
         | inl is ↦ inl is
         | inr rest ↦ elim rest [
           | inl begun ↦ inr (rw here.0 begun.1)

@@ -1,14 +1,15 @@
 -- What the examples of tables show.
-use Rattle.std.proofs.Common.{◌≡◌, ◌≢◌, ℕ, zero, suc, ◌+◌, ◌-◌, ◌*◌, ◌/◌, ◌%◌, ◌^◌, ◌<◌, ◌≤◌, Bool, true, false, List, [], ◌∷◌, ◌++◌, Option, Some, None, get_or, length, set, replicate, refl, sym, ap, subst, ◌∙◌, inl, inr, ◌⊎◌, arith, get_or-set_other, get_or-set_same}
+use Rattle.std.proofs.Common.{◌≡◌, ◌≢◌, ℕ, zero, suc, ◌+◌, ◌-◌, ◌*◌, ◌/◌, ◌%◌, ◌^◌, ◌<◌, ◌≤◌, false, List, [], ◌∷◌, Option, Some, None, get_or, length, set, replicate, refl, sym, ap, subst, ◌∙◌, inl, inr, arith, get_or-set_other, get_or-set_same}
 use Rattle.std.proofs.lemmas.List.{get_or-append_right}
 use Rattle.std.proofs.lemmas.Option.{none-some}
 use Rattle.cove_base.proofs.TableLemmas.{below-absent}
-use Rattle.cove_model.specs.Machine.{HartRings, Way, no_rings, given, host, released, all_words, hart_word, table_word, tvm_word, Root, Table, Data, AreOwned, HasEntered, IsBehindLeaf, IsInside, IsLawful, Counts, Converts, Frees, Gives, TakesBack, Removes, ChangesTable, Answers, Begins, FencesTvm, Enters, Leaves, IsLeft, IsTableOf, TableChange, Links, Maps, Blocks, Unblocks, Unmaps, Rewrites, number_in}
+use Rattle.cove_model.specs.Machine.{Way, no_rings, converting, given, host, released, all_words, hart_word, table_word, tvm_word, Root, Data, AreOwned, IsBehindLeaf, IsInside, IsLawful, ChangesPage, ChangesTable, Answers, Begins, FencesTvm, ChangesHart, PageChange, Counts, Converts, Frees, Gives, TakesBack, Removes, Enters, Leaves, IsLeft, IsTableOf, TableChange, Links, Maps, Blocks, Unblocks, Unmaps, Rewrites, number_in}
 use Rattle.cove_base.specs.TableWords.{blocked, private_leaf}
-use Rattle.cove_base.specs.Tables.{Slot, InRoot, InMiddle, InLast, IsLinkSlot, IsSlot, Names, below, entry_at, next_table, present}
-use Rattle.cove_model.proofs.LeafWords.{blocked_none, given_number, none_named, present_blocked, present_next, present_none, present_same}
+use Rattle.cove_base.specs.Tables.{Slot, At, IsSlot, below, entry_at, entry_in, next_table, slots_at}
+use Rattle.cove_model.proofs.LeafWords.{blocked_none, given_host, given_number, given_role, none_named, present_blocked, present_next, present_none, present_same}
 use Rattle.cove_model.proofs.Lists.{replicate_zero}
-use Rattle.cove_model.proofs.OwnedStores.{one_owner}
+use Rattle.cove_model.proofs.OwnedStores.{free_given, one_owner}
+use Rattle.cove_model.proofs.StoreLawProofs.{page_change}
 use Rattle.cove_model.specs.TableExamples.{entered_words, fetching, guest, rooted}
 use Rattle.cove_model.specs.TableLaw.{EntersWithin, IsGuestLive, MayReach}
 
@@ -35,21 +36,15 @@ entered_zero place past ne = entered_other place ne ∙ rooted_zero place past
 -- ---- empty tables
 
 module _ (words : List ℕ) (zeros : (place : ℕ) → 8 ≤ place → place < 4104 → get_or words place 0 ≡ 0) where
-  no_root : (n : ℕ) → n < 2048 → entry_at 8 4 words (InRoot n) ≡ 0
-  no_root n low = zeros (table_word 8 4 n) (omega arith) (omega arith)
-
-  no_middle : (n : ℕ) → n < 2 ^ 20 → entry_at 8 4 words (InMiddle n) ≡ 0
-  no_middle n low = ap (λ k. below 8 words k (n % 512)) (no_root (n / 512) (omega arith)) ∙ below-absent 8 words (n % 512)
+  no_word : (d n : ℕ) → n < slots_at d → entry_in 8 4 words d n ≡ 0
+  no_word zero n low = zeros (table_word 8 4 n) (omega arith) (omega arith)
+  no_word (suc d) n low = ap (λ k. below 8 words k (n % 512)) (no_word d (n / 512) (omega arith)) ∙ below-absent 8 words (n % 512)
 
   pub no_entry : (a : Slot) → IsSlot a → entry_at 8 4 words a ≡ 0
-  no_entry (InRoot n) low = no_root n low
-  no_entry (InMiddle n) low = no_middle n low
-  no_entry (InLast g) low = ap (λ k. below 8 words k (g % 512)) (no_middle (g / 512) (omega arith)) ∙ below-absent 8 words (g % 512)
+  no_entry (At d n) low = no_word d n low
 
-  no_link : (a : Slot) (page : ℕ) → IsLinkSlot a → entry_at 8 4 words a ≡ next_table page → ⊥
-  no_link (InRoot n) page slot named = let e = sym (no_root n slot) ∙ named in absurd (omega arith)
-  no_link (InMiddle n) page slot named = let e = sym (no_middle n slot) ∙ named in absurd (omega arith)
-  no_link (InLast g) page slot named = slot
+  no_link : (a : Slot) (page : ℕ) → IsSlot a → entry_at 8 4 words a ≡ next_table page → ⊥
+  no_link a page slot named = let e = sym (no_entry a slot) ∙ named in absurd (omega arith)
 
   empty_owned : get_or words 4 0 ≡ given 1 Root → get_or words 5 0 ≡ given 1 Root → get_or words 6 0 ≡ given 1 Root → get_or words 7 0 ≡ given 1 Root
       → ((p : ℕ) → p < 4 → get_or words p 0 ≢ given 1 Root) → AreOwned 8 words 1 4
@@ -57,7 +52,7 @@ module _ (words : List ℕ) (zeros : (place : ℕ) → 8 ≤ place → place < 4
     root_is = record { fits = omega arith; roots = roots; least = least };
     linked = λ s page slot named. absurd (no_link s page slot named);
     apart = λ s t page slot other named also. absurd (no_link s page slot named);
-    backed = λ g page shared low small named. absurd (none_named page shared (entry_at 8 4 words (InLast g)) (no_entry (InLast g) low) named);
+    backed = λ a page shared slot small named. absurd (none_named page shared (entry_at 8 4 words a) (no_entry a slot) named);
   }
     where
       roots : (i : ℕ) → i < 4 → get_or words (4 + i) 0 ≡ given 1 Root
@@ -118,7 +113,7 @@ not_within most =
 
 -- ---- what a hart inside relies on
 
-pub live : IsGuestLive 8 1 entered_words 1 4 0 (guest no_rings)
+pub live : IsGuestLive 8 1 entered_words 1 4 2 0 (guest no_rings)
 live = record {
   low = omega arith;
   high = omega arith;
@@ -138,10 +133,10 @@ live = record {
     tables_or None = []
     tables_or (Some way) = way.tables
 
-pub not_mapped : IsGuestLive 8 1 entered_words 1 4 0 (guest fetching) → ⊥
-not_mapped live =
+pub not_mapped : (leaves : ℕ) → IsGuestLive 8 1 entered_words 1 4 leaves 0 (guest fetching) → ⊥
+not_mapped leaves live =
     let reach = live.fetches 9 (record { 0 = 2 }) refl in
-    let none : entry_at 8 4 entered_words (InLast 9) ≡ 0 = no_entry entered_words (λ place past low. entered_zero place past (omega arith)) (InLast 9) (omega arith) in
+    let none = no_entry entered_words (λ place past low. entered_zero place past (omega arith)) (At leaves 9) reach.0 in
     elim reach.1.1 [
       | inl is ↦ present_none 2 false (sym is ∙ none)
       | inr held ↦ blocked_none 2 false held.0 (sym held.2 ∙ none)
@@ -169,26 +164,68 @@ host_change tvm one (Maps p s none is p-below behind) = go (present_same 0 false
         let data_word : get_or entered_words 0 0 ≡ given tvm Data = subst (λ x. IsBehindLeaf entered_words tvm x false) (sym same.0) (subst (IsBehindLeaf entered_words tvm p) (sym same.1) behind) in
         let is : get_or entered_words 0 0 ≡ 0 = entered_other 0 (omega arith) in
         absurd (omega arith)
-host_change tvm one (Blocks p s r g p-small was is root_is g-low stands before) = present_none p s (sym was ∙ table_zero)
+host_change tvm one (Blocks p s r a p-small was is root_is slot stands before) = present_none p s (sym was ∙ table_zero)
 host_change tvm one (Unblocks p s since p-small was is) = blocked_none p s since (sym was ∙ table_zero)
 host_change tvm one (Unmaps p s since p-small was is fenced above) = blocked_none p s since (sym was ∙ table_zero)
 host_change tvm one (Rewrites left) = left 0 (omega arith) (subst (λ t. IsInside 8 1 entered_words t 0) (sym one) inside)
 
 pub host_page_mapped : IsLawful 8 1 0 entered_words entered_words (table_word 8 4 0) (private_leaf 0) → ⊥
-host_page_mapped (Counts page before after below at was new few) = absurd (omega arith)
-host_page_mapped (Converts page below at was now new) = absurd (omega arith)
-host_page_mapped (Frees page below at free new) = absurd (omega arith)
-host_page_mapped (Gives page u role below low high at free new left) = absurd (omega arith)
-host_page_mapped (TakesBack page u role below at was new left) = absurd (omega arith)
-host_page_mapped (Removes page u below at was new none) = absurd (omega arith)
+host_page_mapped (ChangesPage page below at change) = absurd (omega arith)
 host_page_mapped (ChangesTable u page i below low at of change) =
     let same : page ≡ 4 = omega arith in
     host_change u (one_owner entered_words u 1 4 (subst (IsTableOf entered_words u) same of) own_table) change
 host_page_mapped (Answers is at new) = absurd (omega arith)
 host_page_mapped (Begins at room new all) = absurd (omega arith)
 host_page_mapped (FencesTvm u low high at room new all) = absurd (omega arith)
-host_page_mapped (Enters u r is low high at out new enters) = absurd (omega arith)
-host_page_mapped (Leaves u is at here new) = absurd (omega arith)
+host_page_mapped (ChangesHart is at change) = absurd (omega arith)
+
+pub page_converted : IsLawful 8 1 0 rooted rooted 0 (converting 0)
+page_converted = ChangesPage 0 (omega arith) refl (Converts refl refl (ap converting (sym (rooted_zero 4104 (omega arith)))))
+
+converted_data : PageChange 8 1 rooted rooted 2 (converting 0) → ⊥
+converted_data (Counts before after was new few) = absurd (omega arith)
+converted_data (Converts then now new) = absurd (omega arith)
+converted_data (Frees free new) = absurd (omega arith)
+converted_data (Gives u role low high free new left) = absurd (omega arith)
+converted_data (TakesBack u role was new left) = absurd (omega arith)
+converted_data (Removes u was new none) = absurd (omega arith)
+
+pub data_page_converted : IsLawful 8 1 0 rooted rooted 2 (converting 0) → ⊥
+data_page_converted lawful = converted_data (page_change lawful (omega arith))
+
+pub enters : IsLawful 8 1 0 rooted rooted (hart_word 8 1 0) (2 ^ 32)
+enters =
+    let none : number_in 8 1 rooted 1 ≡ 0 = rooted_zero (tvm_word 8 1 1) (omega arith) in
+    ChangesHart (omega arith) refl (Enters 1 4 (omega arith) (omega arith) (rooted_zero (hart_word 8 1 0) (omega arith)) (omega arith) rooted_owned)
+
+pub enters_untold : IsLawful 8 1 0 rooted rooted (hart_word 8 1 0) (2 ^ 32 + 1) → ⊥
+enters_untold (ChangesPage page below at change) = absurd (omega arith)
+enters_untold (ChangesTable u page i below low at of change) = absurd (omega arith)
+enters_untold (Answers is at new) = absurd (omega arith)
+enters_untold (Begins at room new all) = absurd (omega arith)
+enters_untold (FencesTvm u low high at room new all) = absurd (omega arith)
+enters_untold (ChangesHart is at (Enters u root low high out new owned)) =
+    let none : number_in 8 1 rooted u ≡ 0 = rooted_zero (tvm_word 8 1 u) (omega arith) in
+    absurd (omega arith)
+enters_untold (ChangesHart is at (Leaves u here new)) = absurd (omega arith)
+
+pub leaves : IsLawful 8 1 0 entered_words entered_words (hart_word 8 1 0) 0
+leaves = ChangesHart (omega arith) refl (Leaves 1 inside refl)
+
+root_page : get_or entered_words 4 0 ≡ given 1 Root
+root_page = entered_other 4 (omega arith)
+
+root_change : PageChange 8 1 entered_words entered_words 4 released → ⊥
+root_change (Counts before after was new few) = given_host 1 before Root (sym root_page ∙ was)
+root_change (Converts then now new) = absurd (omega arith)
+root_change (Frees free new) = free_given _ 1 Root free root_page
+root_change (Gives u role low high free new left) = free_given _ 1 Root free root_page
+root_change (TakesBack u role was new left) =
+    left 0 (omega arith) (subst (λ t. IsInside 8 1 entered_words t 0) (given_number 1 u Root role (sym root_page ∙ was)) inside)
+root_change (Removes u was new none) = let e = given_role 1 u Root Data (sym root_page ∙ was) in absurd (omega arith)
+
+pub root_taken_back : IsLawful 8 1 0 entered_words entered_words 4 released → ⊥
+root_taken_back lawful = root_change (page_change lawful (omega arith))
 
 -- ---- what a hart may reach
 

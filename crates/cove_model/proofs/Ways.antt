@@ -13,7 +13,7 @@ use Rattle.cove_model.proofs.KeyedLemmas.{at_key}
 use Rattle.cove_model.proofs.Lists.{all_at}
 use Rattle.cove_model.proofs.Moves.{Move, Same, Converts, Reclaims, Stores, Fences, Responds, Gives, Returns, IsReturnable}
 use Rattle.cove_model.proofs.Ordering.{after_numbered}
-use Rattle.cove_model.proofs.Running.{seat_apart, seated}
+use Rattle.cove_model.proofs.Running.{mode_apart, seat_apart, seat_on}
 use Rattle.cove_model.specs.Fits.{WayFits}
 
 -- ---- roots
@@ -147,7 +147,7 @@ module _ (script : ScriptValue) (limits : Limits script) (H : List Entry) (e : E
   is_in : (seat : Seat) → before.seats h ≡ Some seat → IsIn before h seat.tvm
   is_in seat sits =
       let board = subst (λ n. h < n) (sym (after_harts script H)) on in
-      let there = (seated script limits H front).on h seat board sits in
+      let there = seat_on script limits H h seat on sits front in
       record {
         inside = sits_inside before h seat (record { on_board = board; sits = sits });
         made = subst (λ n. n ≤ before.made) (at_key (λ (tvm : Tvm). tvm.number) seat.tvm before.tvms there.tvm there.live)
@@ -174,5 +174,6 @@ module _ (script : ScriptValue) (limits : Limits script) (H : List Entry) (e : E
     seat = fits.seat;
     sits = seat_apart script H e h ne ∙ fits.sits;
     root = root_apart fits.seat fits.sits ∙ fits.root;
+    mode = mode_apart script limits H e h fits.seat on fits.sits front ∙ fits.mode;
     tables = λ p among. table_apart fits.seat fits.sits p (fits.tables p among);
   }

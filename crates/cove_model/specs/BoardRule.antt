@@ -1,6 +1,6 @@
 -- What holds of the shared words, the history and what each hart holds, also while a hart that is held stores. It is
--- said of host pages, of the moment of each walk, and of the root and table pages that a hart inside goes by; the words of
--- tables have no part in it yet.
+-- said of host pages, of the moment of each walk, and of the root, the mode and the table pages that a hart inside goes by;
+-- the words of tables have no part in it yet.
 use Rattle.std.specs.Prelude.{◌≡◌, ◌≢◌, ℕ, ◌<◌, ◌⊎◌, List, [], ◌∷◌, ◌++◌, IsSome, IsTrue, Option, Some, None, length, replicate, slice_index, slice_set}
 use Rattle.cove_base.specs.HartValues.{HartValue, Holding, holding, rings_after}
 use Rattle.cove_base.specs.HostWalks.{walked_to}

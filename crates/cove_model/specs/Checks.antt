@@ -1,5 +1,5 @@
 -- The checks of calls: whether one fails in a state, and the answer then.
-use Rattle.std.specs.Prelude.{ℕ, ◌+◌, ◌/◌, ◌%◌, ◌^◌, Bool, true, false, ◌==◌, not, ◌&&◌, ◌||◌, nat_le, nat_lt, length, slice_index, Option, is_some, is_none, unwrap_or}
+use Rattle.std.specs.Prelude.{ℕ, ◌+◌, ◌*◌, ◌/◌, ◌%◌, Bool, true, false, ◌==◌, not, ◌&&◌, ◌||◌, nat_le, nat_lt, length, slice_index, Option, is_some, is_none, unwrap_or}
 use Rattle.std.specs.List.{list_all, list_any}
 use Rattle.std.specs.Option.{option_map_or}
 use Rattle.cove_base.specs.Ranges.{is_outside}
@@ -9,7 +9,7 @@ use Rattle.cove_model.specs.Owners.{has, is_host, is_free, every}
 use Rattle.cove_model.specs.Refusals.{Check, plain}
 use Rattle.cove_model.specs.GuestPages.{is_private, is_shared, meets_run, missing_tables, page_run}
 use Rattle.cove_model.specs.Mappings.{is_fenced, is_kind_kept, is_present, is_waited, mapping_of}
-use Rattle.cove_model.specs.States.{State, cpu_at, find_cpu, find_tvm, harts_inside, runner, shared_pages, tvm_at}
+use Rattle.cove_model.specs.States.{State, cpu_at, find_cpu, find_tvm, guests_in, harts_inside, runner, shared_pages, tvm_at}
 use Rattle.cove_model.specs.Tvms.{Mapping, Binding, Unbinding, NotBegun, Begun, Cpu, Tvm}
 
 -- ---- numbers and pages of the board
@@ -46,9 +46,9 @@ OnBoard S hart = plain (not (nat_lt hart S.harts)) InvalidParam
 abbrev pub RoomForTvm : State → Check
 RoomForTvm S = plain (nat_le TVM_LIMIT S.made) Failed
 
--- the root is four pages from a multiple of their size on
+-- the root is four pages from a multiple of their size on; the rest of the address says the mode, and is 0 or 1
 abbrev pub RootAligned : (root : ℕ) → Check
-RootAligned root = plain (not (root % 16384 == 0)) InvalidAddress
+RootAligned root = plain (nat_lt 1 (root % 16384)) InvalidAddress
 
 -- the state page is none of the root's pages
 abbrev pub StateApart : (root state : ℕ) → Check
@@ -82,9 +82,9 @@ AllLeft S t =
 
 -- ---- regions
 
--- a region is not empty and ends within the 41 bits of guest addresses
-abbrev pub IsArea : (gpa len : ℕ) → Check
-IsArea gpa len = plain (len == 0 || nat_lt (2 ^ 41) (gpa + len)) InvalidAddress
+-- a region is not empty and ends within the guest addresses of the TVM's mode
+abbrev pub IsArea : State → (t gpa len : ℕ) → Check
+IsArea S t gpa len = plain (len == 0 || nat_lt (4096 * guests_in S t) (gpa + len)) InvalidAddress
 
 -- it meets no region of the TVM
 abbrev pub NoOverlap : State → (t gpa len : ℕ) → Check

@@ -17,7 +17,7 @@ use Rattle.cove_model.specs.Histories.{after}
 use Rattle.cove_model.specs.Offers.{cpu_of}
 use Rattle.cove_model.specs.Owners.{Given, AsTable, page_at}
 use Rattle.cove_model.specs.Pages.{root_of}
-use Rattle.cove_model.specs.States.{Seat, State, ended_by}
+use Rattle.cove_model.specs.States.{Seat, State, ended_by, mode_in}
 use Rattle.cove_model.specs.Translations.{Tlb, holds_target, pair_of, tlb}
 
 -- ---- rings
@@ -72,11 +72,12 @@ UnusedFits script history hart (Some noted) = WalkFits script history hart noted
 abbrev pub seat_of : Inside → Seat
 seat_of here = record { tvm = here.tvm; cpu = here.cpu }
 
--- a hart runs this vCPU, of which it knows the registers, the place, the latched word and the fuel, and the root of its
--- TVM's tables
+-- a hart runs this vCPU, of which it knows the registers, the place, the latched word and the fuel, and the root and the mode
+-- of its TVM's tables
 pub record RunsThere (S : State) (hart : ℕ) (here : Inside) : Type 0 where
   pub sits : S.seats hart ≡ Some (seat_of here)
   pub root : root_of S.pages here.tvm ≡ here.root
+  pub mode : mode_in S here.tvm ≡ here.mode
   pub x : (cpu_of S (seat_of here)).x ≡ here.x
   pub pc : (cpu_of S (seat_of here)).pc ≡ here.pc
   pub latched : (cpu_of S (seat_of here)).latched ≡ here.latched
@@ -88,11 +89,13 @@ InsideFits S hart (Some here) = RunsThere S hart here
 
 -- ---- the way of guest walks
 
--- a hart is inside a TVM: the way begins at the root of its tables, and came by pages that are given to it for tables
+-- a hart is inside a TVM: the way begins at the root of its tables, goes by their mode, and came by pages that are given to it
+-- for tables
 pub record IsWay (S : State) (hart : ℕ) (way : Way) : Type 0 where
   pub seat : Seat
   pub sits : S.seats hart ≡ Some seat
   pub root : root_of S.pages seat.tvm ≡ way.root
+  pub mode : mode_in S seat.tvm ≡ way.mode
   pub tables : (p : ℕ) → Contains way.tables p → page_at S.pages p ≡ Given seat.tvm AsTable
 
 -- a hart has a way where it is inside, and none outside
@@ -102,7 +105,8 @@ WayFits S hart (Some way) = IsWay S hart way
 
 -- the way of a hart that makes no walk, by the state
 abbrev pub way_in : State → (hart : ℕ) → Option Way
-way_in S hart = option_map (λ seat. record { root = root_of S.pages seat.tvm; tables = [] }) (S.seats hart)
+way_in S hart =
+    option_map (λ seat. record { root = root_of S.pages seat.tvm; mode = mode_in S seat.tvm; tables = [] }) (S.seats hart)
 
 -- ---- the whole
 

@@ -27,8 +27,7 @@ tenant = record (new_tvm 1) {
   regions = record { first = 16; count = 5 } ∷ [];
   shared = 18 ∷ 19 ∷ [];
   tables = 8 ∷ 9 ∷ [];
-  thirds = 0 ∷ [];
-  seconds = 0 ∷ [];
+  prefixes = λ level. 0 ∷ [];
   mappings = mapped 16 (OwnPage 4 zeros) Present ∷ mapped 17 (OwnPage 5 zeros) (Blocked (0 ∷ []) None)
       ∷ mapped 18 (OwnPage 6 zeros) (Blocked [] (Some [])) ∷ mapped 19 (HostPage 7) Present ∷ [];
   cpus = first_cpu ∷ new_cpu 1 ∷ [];

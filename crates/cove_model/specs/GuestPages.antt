@@ -1,6 +1,7 @@
 -- Guest pages: their kinds, and the table pages that they need.
-use Rattle.std.specs.Prelude.{ℕ, ◌+◌, ◌-◌, ◌/◌, Bool, ◌==◌, ◌&&◌, ◌||◌, not, nat_le, nat_lt, if◌then◌else◌, List, [], ◌∷◌, ◌++◌, length, map, filter}
+use Rattle.std.specs.Prelude.{ℕ, zero, suc, ◌+◌, ◌-◌, ◌/◌, Bool, ◌==◌, ◌&&◌, ◌||◌, not, nat_le, nat_lt, if◌then◌else◌, List, [], ◌∷◌, ◌++◌, length, map, filter}
 use Rattle.std.specs.List.{list_all, list_any, range_with_len}
+use Rattle.cove_base.specs.Modes.{leaves_of}
 use Rattle.cove_model.specs.Owners.{has}
 use Rattle.cove_model.specs.Tvms.{Area, Tvm}
 
@@ -42,29 +43,34 @@ shared_without tvm gpa n = filter (λ g. not (is_among gpa n g)) tvm.shared
 abbrev pub row_count : List ℕ → ℕ
 row_count gs = length (filter (λ g. g == 0 || not (has (g - 1) gs)) gs)
 
--- the leading part of a guest page that one table page of the third level serves, 512 pages long, and the one that one of
--- the second level serves, 512 times that
-abbrev pub third_of : (g : ℕ) → ℕ
-third_of g = g / 512
-
-abbrev pub second_of : (g : ℕ) → ℕ
-second_of g = g / 262144
+-- the leading part of a guest page that one table page of a level serves: levels count from the leaves up, and a part of the
+-- first is 512 guest pages long, one of each further level 512 times as long
+abbrev pub part_of : (level g : ℕ) → ℕ
+part_of zero g = g
+part_of (suc level) g = part_of level (g / 512)
 
 -- the numbers of a list that are not in another, each once
 abbrev pub new_ones : (old : List ℕ) → List ℕ → List ℕ
 new_ones old [] = []
 new_ones old (n ∷ ns) = if has n old then new_ones old ns else n ∷ new_ones (n ∷ old) ns
 
-abbrev pub new_thirds : Tvm → (gpa n : ℕ) → List ℕ
-new_thirds tvm gpa n = new_ones tvm.thirds (map third_of (page_run gpa n))
+-- the leading parts at a level of the n guest pages from an address on that are not in use
+abbrev pub new_parts : Tvm → (gpa n level : ℕ) → List ℕ
+new_parts tvm gpa n level = new_ones (tvm.prefixes level) (map (part_of level) (page_run gpa n))
 
-abbrev pub new_seconds : Tvm → (gpa n : ℕ) → List ℕ
-new_seconds tvm gpa n = new_ones tvm.seconds (map second_of (page_run gpa n))
+-- a sum over the levels from the first on, as many as there are
+abbrev pub over_levels : (count : ℕ → ℕ) (levels : ℕ) → ℕ
+over_levels count zero = 0
+over_levels count (suc level) = over_levels count level + count (suc level)
+
+-- how many table pages serve leading parts that are in use
+abbrev pub tables_in_use : Tvm → ℕ
+tables_in_use tvm = over_levels (λ level. length (tvm.prefixes level)) (leaves_of tvm.mode)
 
 -- the table pages of the pool: those that serve nothing yet
 abbrev pub pool_size : Tvm → ℕ
-pool_size tvm = length tvm.tables - (length tvm.thirds + length tvm.seconds)
+pool_size tvm = length tvm.tables - tables_in_use tvm
 
 -- how many table pages are missing for a mapping of the n guest pages from an address on
 abbrev pub missing_tables : Tvm → (gpa n : ℕ) → ℕ
-missing_tables tvm gpa n = (length (new_thirds tvm gpa n) + length (new_seconds tvm gpa n)) - pool_size tvm
+missing_tables tvm gpa n = over_levels (λ level. length (new_parts tvm gpa n level)) (leaves_of tvm.mode) - pool_size tvm

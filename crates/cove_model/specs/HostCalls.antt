@@ -9,6 +9,7 @@ use Rattle.cove_model.specs.Types.{HostCall, Convert, GlobalFence, LocalFence, R
 use Rattle.cove_model.specs.Checks.{WithinMemory, AllHost, AllFree, NoneShared, AllAnswered, OnBoard, RoomForTvm, RootAligned, StateApart, Live, IsBuilding, IsRunnable, NobodyInside, AllLeft, IsArea, NoOverlap, RoomForRegion, AllPrivate, AllShared, Unmapped, EnoughTables, AllPresent, AllBlocked, KindsKept, AllFenced, CpuNumber, NoCpuYet, HasCpu, HasSomeCpu, PlaceAligned, Fuel, NotRunning, NotStopped, NotElsewhere, NotLeaving, UnbindingNotBegun, UnbindingBegun, UnbindingFenced, IsBound, NotBound, FileNumber, FileNotTaken, Identity, IsAllowed}
 use Rattle.cove_model.specs.GuestPages.{is_among, page_run}
 use Rattle.cove_base.specs.InterruptFiles.{raised}
+use Rattle.cove_base.specs.Modes.{mode_of}
 use Rattle.cove_model.specs.Keyed.{dropped}
 use Rattle.cove_model.specs.Mappings.{blocked_standing, fenced_tvm, own_mappings, rebound, restood, shared_mappings, unblocked_standing, with_mappings}
 use Rattle.cove_model.specs.Pages.{change_each, freed, given_to, removed}
@@ -85,9 +86,9 @@ rule S h (Create root state) =
     giving t
     (RoomForTvm S ∷ RootAligned root ∷ Aligned state ∷ WithinMemory S root 4 ∷ WithinMemory S state 1 ∷ StateApart root state
     ∷ AllFree S root 4 ∷ AllFree S state 1 ∷ [])
-    (giving_pages t AsState state 1 (giving_pages t AsRoot root 4 (record S { tvms = S.tvms ++ created t (board_in S) ∷ []; made = t })))
+    (giving_pages t AsState state 1 (giving_pages t AsRoot root 4 (record S { tvms = S.tvms ++ created t (mode_of root) (board_in S) ∷ []; made = t })))
 rule S h (Region t gpa len) = simply
-    (Live S t ∷ IsBuilding S t ∷ Aligned gpa ∷ Aligned len ∷ IsArea gpa len ∷ NoOverlap S t gpa len ∷ RoomForRegion S t ∷ [])
+    (Live S t ∷ IsBuilding S t ∷ Aligned gpa ∷ Aligned len ∷ IsArea S t gpa len ∷ NoOverlap S t gpa len ∷ RoomForRegion S t ∷ [])
     (on_tvm t (λ tvm. record tvm { regions = tvm.regions ++ record { first = gpa / 4096; count = len / 4096 } ∷ [] }) S)
 rule S h (Tables t base n) = simply
     (Live S t ∷ Count n ∷ Aligned base ∷ WithinMemory S base n ∷ AllFree S base n ∷ [])

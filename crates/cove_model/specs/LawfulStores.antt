@@ -1,10 +1,10 @@
 -- Which stores to the shared words a hart may make while it is held.
-use Rattle.std.specs.Prelude.{◌≡◌, ◌≢◌, ℕ, ◌+◌, ◌*◌, ◌^◌, ◌<◌, ◌≤◌, ◌⊎◌, Bool, true, false, List, [], slice_index}
+use Rattle.std.specs.Prelude.{◌≡◌, ◌≢◌, ℕ, ◌+◌, ◌*◌, ◌^◌, ◌<◌, ◌≤◌, ◌⊎◌, Bool, true, false, List, slice_index}
 use Rattle.cove_base.specs.PageWords.{host, converting, given, released}
 use Rattle.cove_base.specs.Places.{page_word, table_word, epoch_word, answered_word, hart_word, tvm_word}
 use Rattle.cove_base.specs.Stores.{Leads}
 use Rattle.cove_base.specs.TableWords.{blocked}
-use Rattle.cove_base.specs.Tables.{InLast, Slot, IsLinkSlot, Names, StandsAt, entry_at, leaf_at, next_table, present}
+use Rattle.cove_base.specs.Tables.{Slot, IsSlot, Names, StandsAt, entry_at, next_table, present}
 use Rattle.cove_base.specs.declared.limits.TheConstants.{ENTRY_LIMIT, TVM_LIMIT}
 use Rattle.cove_base.specs.declared.numbers.Role.{Role}
 use Rattle.cove_base.specs.declared.numbers.Role.TheVariants.{Root, Table, Data}
@@ -38,11 +38,11 @@ pub record IsRoot (pages : ℕ) (words : List ℕ) (tvm root : ℕ) : Type 0 whe
   pub roots : (i : ℕ) → i < 4 → slice_index words (page_word (root + i)) ≡ given tvm Root
   pub least : (p : ℕ) → p < root → slice_index words (page_word p) ≢ given tvm Root
 
--- a leaf of the TVM, present or blocked, names the page
+-- an entry of the TVM, at whatever depth, names the page as a leaf, present or blocked
 abbrev pub LeafNames : (pages : ℕ) (words : List ℕ) (tvm page : ℕ) → Type 0
 LeafNames pages words tvm page =
     (root : ℕ) × IsRoot pages words tvm root
-    × ((g : ℕ) × (g < 2 ^ 29) × ((shared : Bool) × Names page shared (leaf_at pages root words g)))
+    × ((a : Slot) × IsSlot a × ((shared : Bool) × Names page shared (entry_at pages root words a)))
 
 -- a page has words of the tables of a TVM: it is given to it as a root or for tables
 abbrev pub IsTableOf : (words : List ℕ) (tvm page : ℕ) → Type 0
@@ -54,18 +54,18 @@ abbrev pub IsBehindLeaf : (words : List ℕ) (tvm page : ℕ) (shared : Bool) �
 IsBehindLeaf words tvm page false = slice_index words (page_word page) ≡ given tvm Data
 IsBehindLeaf words tvm page true = (maps : ℕ) × (0 < maps) × (slice_index words (page_word page) ≡ host maps)
 
--- The tables of a TVM are owned: each page that a link names is given to the TVM for tables, no two links name one, and each
--- page that a leaf names, present or blocked, stands behind it.
+-- The tables of a TVM are owned: each page that an entry names as a table is given to the TVM for tables, no two entries name
+-- one, and each page that an entry names as a leaf, present or blocked, stands behind it. That holds of entries at any depth.
 pub record AreOwned (pages : ℕ) (words : List ℕ) (tvm root : ℕ) : Type 0 where
   pub root_is : IsRoot pages words tvm root
   pub linked :
-      (a : Slot) (page : ℕ) → IsLinkSlot a → entry_at pages root words a ≡ next_table page
+      (a : Slot) (page : ℕ) → IsSlot a → entry_at pages root words a ≡ next_table page
       → (page < pages) × (slice_index words (page_word page) ≡ given tvm Table)
   pub apart :
-      (a b : Slot) (page : ℕ) → IsLinkSlot a → IsLinkSlot b
+      (a b : Slot) (page : ℕ) → IsSlot a → IsSlot b
       → entry_at pages root words a ≡ next_table page → entry_at pages root words b ≡ next_table page → a ≡ b
   pub backed :
-      (g page : ℕ) (shared : Bool) → g < 2 ^ 29 → page < 2 ^ 16 → Names page shared (leaf_at pages root words g)
+      (a : Slot) (page : ℕ) (shared : Bool) → IsSlot a → page < 2 ^ 16 → Names page shared (entry_at pages root words a)
       → (page < pages) × IsBehindLeaf words tvm page shared
 
 -- How a word in the tables of a TVM may change, by what it was, what it becomes and where it stands.
@@ -74,7 +74,7 @@ pub data TableChange (pages harts : ℕ) (words : List ℕ) (tvm : ℕ) (old : L
   Links :
       (page : ℕ) → was ≡ 0 → word ≡ next_table page → page < pages
       → slice_index words (page_word page) ≡ given tvm Table
-      → ((root : ℕ) (a : Slot) → IsRoot pages words tvm root → IsLinkSlot a → entry_at pages root words a ≢ next_table page)
+      → ((root : ℕ) (a : Slot) → IsRoot pages words tvm root → IsSlot a → entry_at pages root words a ≢ next_table page)
       → ((i : ℕ) → i < 512 → slice_index words (table_word pages page i) ≡ 0)
       → TableChange pages harts words tvm old place was word
   -- a guest page is mapped to the page that stands behind it
@@ -84,10 +84,10 @@ pub data TableChange (pages harts : ℕ) (words : List ℕ) (tvm : ℕ) (old : L
       → TableChange pages harts words tvm old place was word
   -- a leaf that was present at the last entry too is blocked, with the TVM's number
   Blocks :
-      (page : ℕ) (shared : Bool) (root g : ℕ) → page < 2 ^ 16 → was ≡ present page shared
+      (page : ℕ) (shared : Bool) (root : ℕ) (a : Slot) → page < 2 ^ 16 → was ≡ present page shared
       → word ≡ blocked was (number_in pages harts words tvm)
-      → IsRoot pages words tvm root → g < 2 ^ 29 → StandsAt pages root words (InLast g) place
-      → leaf_at pages root old g ≡ was
+      → IsRoot pages words tvm root → IsSlot a → StandsAt pages root words a place
+      → entry_at pages root old a ≡ was
       → TableChange pages harts words tvm old place was word
   -- a blocked leaf is present again
   Unblocks :
@@ -109,41 +109,55 @@ abbrev pub IsFreeIn : (pages harts : ℕ) (words : List ℕ) (page : ℕ) → Ty
 IsFreeIn pages harts words page =
     FreeStands harts (answered_in pages words) (slice_index words (page_word page))
 
--- The stores of a hart that are lawful on these words, where the words were the old ones when the last entry was counted.
-pub data IsLawful (pages harts : ℕ) (hart : ℕ) (old words : List ℕ) (place word : ℕ) : Type 0 where
+-- How the word of a page may change, by what it was and what it becomes.
+pub data PageChange (pages harts : ℕ) (old words : List ℕ) (page word : ℕ) : Type 0 where
   -- the count of a page of the host's changes; it becomes 0 only where no leaf names the page
   Counts :
-      (page before after : ℕ) → page < pages → place ≡ page_word page
-      → slice_index words place ≡ host before → word ≡ host after
+      (before after : ℕ) → slice_index words (page_word page) ≡ host before → word ≡ host after
       → (after ≡ 0 → (tvm : ℕ) → LeafNames pages words tvm page → ⊥)
-      → IsLawful pages harts hart old words place word
+      → PageChange pages harts old words page word
   -- a page of the host's that isn't mapped, and wasn't before, goes into conversion
   Converts :
-      (page : ℕ) → page < pages → place ≡ page_word page
-      → slice_index old place ≡ host 0 → slice_index words place ≡ host 0 → word ≡ converting (epoch_in pages words)
-      → IsLawful pages harts hart old words place word
+      slice_index old (page_word page) ≡ host 0 → slice_index words (page_word page) ≡ host 0
+      → word ≡ converting (epoch_in pages words)
+      → PageChange pages harts old words page word
   -- a free page becomes the host's, or released
   Frees :
-      (page : ℕ) → page < pages → place ≡ page_word page
-      → IsFreeIn pages harts words page → (word ≡ host 0) ⊎ (word ≡ released)
-      → IsLawful pages harts hart old words place word
+      IsFreeIn pages harts words page → (word ≡ host 0) ⊎ (word ≡ released)
+      → PageChange pages harts old words page word
   -- a free page is given to a TVM; as a root only where no hart is inside it
   Gives :
-      (page tvm : ℕ) (role : Role) → page < pages → 1 ≤ tvm → tvm ≤ TVM_LIMIT → place ≡ page_word page
+      (tvm : ℕ) (role : Role) → 1 ≤ tvm → tvm ≤ TVM_LIMIT
       → IsFreeIn pages harts words page → word ≡ given tvm role
       → (role ≡ Root → IsLeft pages harts words tvm)
-      → IsLawful pages harts hart old words place word
+      → PageChange pages harts old words page word
   -- a page is taken back from a TVM that no hart is inside
   TakesBack :
-      (page tvm : ℕ) (role : Role) → page < pages → place ≡ page_word page
-      → slice_index words place ≡ given tvm role → word ≡ released
+      (tvm : ℕ) (role : Role) → slice_index words (page_word page) ≡ given tvm role → word ≡ released
       → IsLeft pages harts words tvm
-      → IsLawful pages harts hart old words place word
+      → PageChange pages harts old words page word
   -- a page of a TVM's memory is taken back that no leaf of the TVM names
   Removes :
-      (page tvm : ℕ) → page < pages → place ≡ page_word page
-      → slice_index words place ≡ given tvm Data → word ≡ released
+      (tvm : ℕ) → slice_index words (page_word page) ≡ given tvm Data → word ≡ released
       → (LeafNames pages words tvm page → ⊥)
+      → PageChange pages harts old words page word
+
+-- How the word of a hart may change, by what it was and what it becomes.
+pub data HartChange (pages harts : ℕ) (words : List ℕ) (hart word : ℕ) : Type 0 where
+  -- the hart enters a TVM, whose tables are owned, with its number
+  Enters :
+      (tvm root : ℕ) → 1 ≤ tvm → tvm ≤ TVM_LIMIT
+      → slice_index words (hart_word pages harts hart) ≡ 0 → word ≡ 2 ^ 32 * tvm + number_in pages harts words tvm
+      → AreOwned pages words tvm root
+      → HartChange pages harts words hart word
+  -- the hart leaves the TVM that it is inside
+  Leaves : (tvm : ℕ) → IsInside pages harts words tvm hart → word ≡ 0 → HartChange pages harts words hart word
+
+-- The stores of a hart that are lawful on these words, where the words were the old ones when the last entry was counted.
+pub data IsLawful (pages harts : ℕ) (hart : ℕ) (old words : List ℕ) (place word : ℕ) : Type 0 where
+  -- the word of a page changes
+  ChangesPage :
+      (page : ℕ) → page < pages → place ≡ page_word page → PageChange pages harts old words page word
       → IsLawful pages harts hart old words place word
   -- a word in the tables of a TVM changes
   ChangesTable :
@@ -165,15 +179,9 @@ pub data IsLawful (pages harts : ℕ) (hart : ℕ) (old words : List ℕ) (place
       → number_in pages harts words tvm < ENTRY_LIMIT → word ≡ number_in pages harts words tvm + 1
       → ((other number : ℕ) → other < harts → HasEntered pages harts words tvm other number → number_in pages harts words tvm ≤ number)
       → IsLawful pages harts hart old words place word
-  -- the hart enters a TVM, whose tables are owned, with its number
-  Enters :
-      (tvm root : ℕ) → hart < harts → 1 ≤ tvm → tvm ≤ TVM_LIMIT → place ≡ hart_word pages harts hart
-      → slice_index words place ≡ 0 → word ≡ 2 ^ 32 * tvm + number_in pages harts words tvm
-      → AreOwned pages words tvm root
-      → IsLawful pages harts hart old words place word
-  -- the hart leaves the TVM that it is inside
-  Leaves :
-      (tvm : ℕ) → hart < harts → place ≡ hart_word pages harts hart → IsInside pages harts words tvm hart → word ≡ 0
+  -- the word of the hart changes
+  ChangesHart :
+      hart < harts → place ≡ hart_word pages harts hart → HartChange pages harts words hart word
       → IsLawful pages harts hart old words place word
 
 -- a test allows every store that is lawful for a hart, on whatever words

@@ -3,7 +3,7 @@ use Rattle.std.specs.Prelude.{ℕ, zero, suc, ◌+◌, Bool, true, false, not, i
 use Rattle.std.specs.Option.{option_map}
 use Rattle.cove_model.specs.Owners.{has, without}
 use Rattle.cove_model.specs.Keyed.{at}
-use Rattle.cove_model.specs.GuestPages.{is_private, is_shared, new_thirds, new_seconds}
+use Rattle.cove_model.specs.GuestPages.{is_private, is_shared, new_parts}
 use Rattle.cove_model.specs.Tvms.{Backing, OwnPage, HostPage, Standing, Present, Blocked, Mapping, Unbinding, NotBegun, Begun, Binding, Cpu, Tvm}
 
 -- the mapping of a guest page, if it has one
@@ -26,8 +26,7 @@ shared_mappings g p (suc n) =
 abbrev pub with_mappings : (gpa n : ℕ) → List Mapping → Tvm → Tvm
 with_mappings gpa n new tvm = record tvm {
   mappings = tvm.mappings ++ new;
-  thirds = tvm.thirds ++ new_thirds tvm gpa n;
-  seconds = tvm.seconds ++ new_seconds tvm gpa n;
+  prefixes = λ level. tvm.prefixes level ++ new_parts tvm gpa n level;
 }
 
 -- a mapping, which stands otherwise where it is of one of some guest pages

@@ -1,5 +1,5 @@
 -- What the machine offers a hart, and what an access needs.
-use Rattle.std.specs.Prelude.{◌≡◌, ◌<◌, ◌≤◌, ℕ, ◌^◌, ◌&&◌, Bool, false, nat_lt, if◌then◌else◌, Option, Some, None, find}
+use Rattle.std.specs.Prelude.{◌≡◌, ◌<◌, ◌≤◌, ℕ, ◌*◌, ◌&&◌, Bool, false, nat_lt, if◌then◌else◌, Option, Some, None, find}
 use Rattle.std.specs.Option.{option_map_or}
 use Rattle.cove_base.specs.HartLines.{next_line}
 use Rattle.cove_base.specs.Registers.{register}
@@ -8,7 +8,7 @@ use Rattle.cove_base.specs.declared.events.Exit.{Exit}
 use Rattle.cove_base.specs.declared.walks.Target.{Target}
 use Rattle.cove_base.specs.declared.walks.Target.TheVariants as target
 use Rattle.cove_model.specs.Owners.{has, is_host, may_use, page_at}
-use Rattle.cove_model.specs.States.{harts_below, page_of, Seat, State, cpu_at, ended_by, tvm_at, word_at}
+use Rattle.cove_model.specs.States.{harts_below, page_of, Seat, State, cpu_at, ended_by, guests_in, tvm_at, word_at}
 use Rattle.cove_model.specs.Types.{ScriptValue, Event, How, Line, Reply, ScriptLine}
 use Rattle.cove_model.specs.Answers.{refusal_by, reply_by, reply_to}
 use Rattle.cove_model.specs.Deeds.{Deed, Tires, Fetches, Executes, Loads, Stores, Asks, Waits, Traps, deed_of}
@@ -102,10 +102,10 @@ outside_offer script S h (Some line) = unless_behind (first_behind script S line
 abbrev pub fault_exit : (cause addr : ℕ) → Event
 fault_exit cause addr = Event.Exit (Exit.Fault cause (record { 0 = page_of addr }))
 
--- an access of a guest: at the limit of guest addresses and past it there is no page to look for
-abbrev pub guest_touch : Target → (success : How → Event) → (cause addr : ℕ) → Offer
-guest_touch sought success cause addr =
-    if nat_lt addr (2 ^ 41) then Touch sought success (fault_exit cause addr) else Single (fault_exit cause addr)
+-- an access of a guest, where there are so many guest pages: behind the last one there is no page to look for
+abbrev pub guest_touch : (guests : ℕ) → Target → (success : How → Event) → (cause addr : ℕ) → Offer
+guest_touch guests sought success cause addr =
+    if nat_lt addr (4096 * guests) then Touch sought success (fault_exit cause addr) else Single (fault_exit cause addr)
 
 -- what a guest is answered: evidence that succeeds is shown
 abbrev pub act_event : State → (t nonce : ℕ) → GuestAct → (refused : Option Reply) → Reply → Event
@@ -120,10 +120,10 @@ asked_event S h seat a0 a1 act =
 -- what a deed of a vCPU offers the hart that runs it
 abbrev pub deed_offer : State → (hart : ℕ) → Seat → Deed → Offer
 deed_offer S h seat Tires = Single (Event.Exit Exit.Fuel)
-deed_offer S h seat (Fetches addr) = guest_touch (fetch_target addr) (λ how. Event.Fetch how) 20 addr
+deed_offer S h seat (Fetches addr) = guest_touch (guests_in S seat.tvm) (fetch_target addr) (λ how. Event.Fetch how) 20 addr
 deed_offer S h seat (Executes rd value pc file) = Single Event.Exec
-deed_offer S h seat (Loads addr size signed rd) = guest_touch (access_target addr) (λ how. Event.Access how) 21 addr
-deed_offer S h seat (Stores addr size value) = guest_touch (access_target addr) (λ how. Event.Access how) 23 addr
+deed_offer S h seat (Loads addr size signed rd) = guest_touch (guests_in S seat.tvm) (access_target addr) (λ how. Event.Access how) 21 addr
+deed_offer S h seat (Stores addr size value) = guest_touch (guests_in S seat.tvm) (access_target addr) (λ how. Event.Access how) 23 addr
 deed_offer S h seat (Asks act) =
     let x = (cpu_of S seat).x in Single (asked_event S h seat (register x 10) (register x 11) act)
 deed_offer S h seat Waits = Single (Event.Exit Exit.Wfi)

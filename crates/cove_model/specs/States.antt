@@ -7,6 +7,8 @@ use Rattle.cove_model.specs.Owners.{Owner, Host, page_at, words_of}
 use Rattle.cove_model.specs.Types.{Fill, ScriptValue}
 use Rattle.cove_base.specs.InterruptFiles.{empty_file}
 use Rattle.cove_base.specs.Measurement.{board_number}
+use Rattle.cove_base.specs.Modes.{guest_limit}
+use Rattle.cove_base.specs.declared.modes.Mode.{Mode}
 use Rattle.cove_model.specs.Keyed.{at, alter}
 use Rattle.cove_model.specs.Tvms.{Backing, OwnPage, HostPage, Cpu, Tvm, new_tvm}
 
@@ -61,6 +63,13 @@ find_tvm S t = at (λ tvm. tvm.number) t S.tvms
 -- the TVM with a number, and a new one where none is live
 abbrev pub tvm_at : State → (t : ℕ) → Tvm
 tvm_at S t = unwrap_or (find_tvm S t) (new_tvm t)
+
+-- the mode of a TVM's tables, and how many guest pages that has
+abbrev pub mode_in : State → (t : ℕ) → Mode
+mode_in S t = (tvm_at S t).mode
+
+abbrev pub guests_in : State → (t : ℕ) → ℕ
+guests_in S t = guest_limit (mode_in S t)
 
 -- the state with a TVM changed
 abbrev pub on_tvm : (t : ℕ) → (how : Tvm → Tvm) → State → State

@@ -1,10 +1,10 @@
 -- A board to read on which a TVM has tables, and a hart that is inside.
-use Rattle.std.specs.Prelude.{ℕ, ◌-◌, ◌*◌, ◌^◌, List, [], ◌∷◌, ◌++◌, replicate, slice_set, Some, None}
+use Rattle.std.specs.Prelude.{ℕ, ◌-◌, ◌^◌, List, [], ◌∷◌, ◌++◌, replicate, slice_set, Some, None}
 use Rattle.cove_base.specs.HartValues.{HartRings, Holding, no_rings}
 use Rattle.cove_base.specs.PageWords.{given, host, released}
 use Rattle.cove_base.specs.Places.{all_words, hart_word}
 use Rattle.cove_base.specs.TableWords.{shared_leaf}
-use Rattle.cove_base.specs.declared.numbers.Page.{Page}
+use Rattle.cove_base.specs.declared.modes.Mode.TheVariants.{Sv39x4}
 use Rattle.cove_base.specs.declared.numbers.Role.TheVariants.{Root, Data}
 
 -- the words of a board of eight pages and one hart: page 2 is of the memory of TVM 1, page 3 is free, pages 4 to 7 are the
@@ -19,7 +19,7 @@ entered_words = slice_set rooted (hart_word 8 1 0) (2 ^ 32)
 
 -- what it holds
 abbrev pub guest : HartRings → Holding
-guest rings = record { hart = 0; rings = rings; walked = None; way = Some (record { root = 4; tables = [] }) }
+guest rings = record { hart = 0; rings = rings; walked = None; way = Some (record { root = 4; mode = Sv39x4; tables = [] }) }
 
 -- rings that name guest page 9 for fetches
 abbrev pub fetching : HartRings

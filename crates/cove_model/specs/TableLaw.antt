@@ -1,14 +1,14 @@
 -- What lawful stores leave of the tables of a TVM that a hart is inside, and of what that hart relies on.
-use Rattle.std.specs.Prelude.{◌≡◌, ◌≢◌, ℕ, ◌+◌, ◌*◌, ◌/◌, ◌%◌, ◌^◌, ◌<◌, ◌≤◌, ◌⊎◌, ◌==◌, ◌&&◌, ◌||◌, Bool, true, false, List, [], ◌∷◌, Contains, Option, Some, count_by, drop, length, slice_index, slice_set, take}
+use Rattle.std.specs.Prelude.{◌≡◌, ◌≢◌, ℕ, ◌+◌, ◌*◌, ◌/◌, ◌%◌, ◌^◌, ◌<◌, ◌≤◌, ◌⊎◌, ◌==◌, ◌&&◌, ◌||◌, Bool, false, List, [], ◌∷◌, Contains, Some, count_by, drop, length, slice_index, slice_set, take}
 use Rattle.cove_base.specs.HartValues.{Holding, Way}
-use Rattle.cove_base.specs.Places.{all_words, hart_word, table_word}
+use Rattle.cove_base.specs.Places.{all_words, table_word}
 use Rattle.cove_base.specs.Rings.{found}
 use Rattle.cove_base.specs.TableWords.{blocked}
-use Rattle.cove_base.specs.Tables.{Slot, IsLinkSlot, entry_at, leaf_at, next_table, present}
+use Rattle.cove_base.specs.Tables.{Slot, IsSlot, entry_at, leaf_at, next_table, present, slots_at}
 use Rattle.cove_base.specs.declared.limits.TheConstants.{ENTRY_LIMIT, TVM_LIMIT}
 use Rattle.cove_base.specs.declared.numbers.Page.{Page}
 use Rattle.cove_model.specs.LawfulCounts.{counted}
-use Rattle.cove_model.specs.LawfulStores.{AreOwned, HasEntered, IsInside, IsLawful, IsTableOf, MakesLawful}
+use Rattle.cove_model.specs.LawfulStores.{AreOwned, HasEntered, IsInside, IsLawful, MakesLawful}
 use Rattle.cove_model.specs.WordsStand.{FencesWithin, number_in}
 
 -- no hart inside a TVM entered with a number above the TVM's
@@ -23,16 +23,16 @@ MayReach number page shared leaf =
     (page < 2 ^ 16)
     × ((leaf ≡ present page shared) ⊎ ((since : ℕ) × (number ≤ since) × (leaf ≡ blocked (present page shared) since)))
 
--- the way of a hart begins at this root, and came by tables that a link slot names
+-- the way of a hart begins at this root, and came by tables that a slot names
 pub record IsWayBy (pages root : ℕ) (words : List ℕ) (way : Way) : Type 0 where
   pub root_is : way.root ≡ root
   pub named :
       (page : ℕ) → Contains way.tables page
-      → (a : Slot) × IsLinkSlot a × (entry_at pages root words a ≡ next_table page)
+      → (a : Slot) × IsSlot a × (entry_at pages root words a ≡ next_table page)
 
--- What a hart inside a TVM relies on: its word, tables that are owned, its way, and that each guest page that its rings name
--- has a leaf by which it may reach the page; by a ring of fetches a private one.
-pub record IsGuestLive (pages harts : ℕ) (words : List ℕ) (tvm root number : ℕ) (held : Holding) : Type 0 where
+-- What a hart inside a TVM relies on, whose tables have their leaves at a depth: its word, tables that are owned, its way, and
+-- that each guest page that its rings name has a leaf by which it may reach the page; by a ring of fetches a private one.
+pub record IsGuestLive (pages harts : ℕ) (words : List ℕ) (tvm root leaves number : ℕ) (held : Holding) : Type 0 where
   pub low : 1 ≤ tvm
   pub high : tvm ≤ TVM_LIMIT
   pub on_board : held.hart < harts
@@ -41,10 +41,10 @@ pub record IsGuestLive (pages harts : ℕ) (words : List ℕ) (tvm root number :
   pub way : (way : Way) → held.way ≡ Some way → IsWayBy pages root words way
   pub fetches :
       (g : ℕ) (page : Page) → found g held.rings.fetches ≡ Some page
-      → (g < 2 ^ 29) × MayReach number page.0 false (leaf_at pages root words g)
+      → (g < slots_at leaves) × MayReach number page.0 false (leaf_at pages root leaves words g)
   pub accesses :
       (g : ℕ) (page : Page) → found g held.rings.accesses ≡ Some page
-      → (g < 2 ^ 29) × ((shared : Bool) × MayReach number page.0 shared (leaf_at pages root words g))
+      → (g < slots_at leaves) × ((shared : Bool) × MayReach number page.0 shared (leaf_at pages root leaves words g))
 
 -- A lawful store leaves the entering numbers within those of the TVMs.
 abbrev pub StoresKeepEntered : Type 0
@@ -64,37 +64,37 @@ StoresKeepOwned =
 -- It leaves what every other hart inside a TVM relies on.
 abbrev pub StoresKeepGuests : Type 0
 StoresKeepGuests =
-    (pages harts hart : ℕ) (old words : List ℕ) (place word tvm root number : ℕ) (other : Holding)
+    (pages harts hart : ℕ) (old words : List ℕ) (place word tvm root leaves number : ℕ) (other : Holding)
     → pages ≤ 2 ^ 16 → length words ≡ all_words pages harts → EntersWithin pages harts words
     → other.hart ≢ hart → IsLawful pages harts hart old words place word
-    → IsGuestLive pages harts words tvm root number other
-    → IsGuestLive pages harts (slice_set words place word) tvm root number other
+    → IsGuestLive pages harts words tvm root leaves number other
+    → IsGuestLive pages harts (slice_set words place word) tvm root leaves number other
 
--- A leaf that is present, of a TVM that a hart is inside, is present after it, or was at the last entry: so what an unused
--- walk found there had its moment.
+-- An entry of a TVM that a hart is inside, by which a page is mapped, is so after it, or was at the last entry: so what an
+-- unused walk found there had its moment.
 abbrev pub StoresKeepPresent : Type 0
 StoresKeepPresent =
-    (pages harts hart other : ℕ) (old words : List ℕ) (place word tvm root g page : ℕ) (shared : Bool)
+    (pages harts hart other : ℕ) (old words : List ℕ) (place word tvm root page : ℕ) (a : Slot) (shared : Bool)
     → length words ≡ all_words pages harts → other < harts → IsInside pages harts words tvm other
     → AreOwned pages words tvm root → IsLawful pages harts hart old words place word
-    → g < 2 ^ 29 → leaf_at pages root words g ≡ present page shared
-    → (leaf_at pages root (slice_set words place word) g ≡ present page shared)
-    ⊎ (leaf_at pages root old g ≡ present page shared)
+    → IsSlot a → entry_at pages root words a ≡ present page shared
+    → (entry_at pages root (slice_set words place word) a ≡ present page shared)
+    ⊎ (entry_at pages root old a ≡ present page shared)
 
 -- A list of lawful stores of one hart leaves what every other hart inside a TVM relies on.
 abbrev pub ListsKeepGuests : Type 0
 ListsKeepGuests =
-    (pages harts hart : ℕ) (old words new : List ℕ) (tvm root number : ℕ) (other : Holding)
+    (pages harts hart : ℕ) (old words new : List ℕ) (tvm root leaves number : ℕ) (other : Holding)
     → pages ≤ 2 ^ 16 → length words ≡ all_words pages harts → FencesWithin pages harts words ENTRY_LIMIT
     → EntersWithin pages harts words → other.hart ≢ hart → MakesLawful pages harts hart old words new
-    → IsGuestLive pages harts words tvm root number other → IsGuestLive pages harts new tvm root number other
+    → IsGuestLive pages harts words tvm root leaves number other → IsGuestLive pages harts new tvm root leaves number other
 
 -- So does the store of the count, for an entry of another hart.
 abbrev pub CountsKeepGuests : Type 0
 CountsKeepGuests =
-    (pages harts : ℕ) (words : List ℕ) (tvm root number : ℕ) (other : Holding)
-    → IsGuestLive pages harts words tvm root number other
-    → IsGuestLive pages harts (counted pages harts words) tvm root number other
+    (pages harts : ℕ) (words : List ℕ) (tvm root leaves number : ℕ) (other : Holding)
+    → IsGuestLive pages harts words tvm root leaves number other
+    → IsGuestLive pages harts (counted pages harts words) tvm root leaves number other
 
 -- ---- a TVM that is being destroyed
 

@@ -1,5 +1,5 @@
 -- The translations that a hart holds after a history.
-use Rattle.std.specs.Prelude.{ℕ, ◌==◌, ◌||◌, ◌^◌, Bool, nat_lt, if◌then◌else◌, List, [], ◌∷◌, ◌++◌, Option, Some, None}
+use Rattle.std.specs.Prelude.{ℕ, ◌==◌, ◌||◌, Bool, nat_lt, if◌then◌else◌, List, [], ◌∷◌, ◌++◌, Option, Some, None}
 use Rattle.std.specs.List.{list_any}
 use Rattle.std.specs.Option.{option_map_or}
 use Rattle.cove_base.specs.Registers.{register}
@@ -17,7 +17,7 @@ use Rattle.cove_model.specs.Histories.{after_entry}
 use Rattle.cove_model.specs.HostCalls.{Forgets, Keeps, ForgetsGuests, ForgetsAll, rule}
 use Rattle.cove_model.specs.Mappings.{page_under}
 use Rattle.cove_model.specs.Offers.{access_target, cpu_of, fetch_target, host_target, seat_mapping}
-use Rattle.cove_model.specs.States.{Seat, State, opening}
+use Rattle.cove_model.specs.States.{Seat, State, guests_in, opening}
 
 -- the host pages, and the guest pages each with its page for fetches and for data, oldest first
 pub record Tlb : Type 0 where
@@ -53,19 +53,19 @@ data_address (Loads addr size signed rd) = addr
 data_address (Stores addr size value) = addr
 data_address deed = 0
 
--- the guest page that an exit did not find; past the limit of guest addresses nothing was looked for
-abbrev pub missed : (cause : ℕ) → Gpn → Touched
-missed cause page =
-    if nat_lt page.0 (2 ^ 29) then Some (if cause == 20 then target.Fetch page else target.Access page, Failed) else None
+-- the guest page that an exit did not find, where there are so many: past the last nothing was looked for
+abbrev pub missed : (guests cause : ℕ) → Gpn → Touched
+missed guests cause page =
+    if nat_lt page.0 guests then Some (if cause == 20 then target.Fetch page else target.Access page, Failed) else None
 
-abbrev pub exit_touched : Exit → Touched
-exit_touched (Exit.Fault cause page) = missed cause page
-exit_touched exit = None
+abbrev pub exit_touched : (guests : ℕ) → Exit → Touched
+exit_touched guests (Exit.Fault cause page) = missed guests cause page
+exit_touched guests exit = None
 
 abbrev pub guest_touched : State → Seat → Event → Touched
 guest_touched S seat (Event.Fetch how) = Some (fetch_target (cpu_of S seat).pc, Came how)
 guest_touched S seat (Event.Access how) = Some (access_target (data_address (deed_of (cpu_of S seat))), Came how)
-guest_touched S seat (Event.Exit exit) = exit_touched exit
+guest_touched S seat (Event.Exit exit) = exit_touched (guests_in S seat.tvm) exit
 guest_touched S seat event = None
 
 abbrev pub touched_at : State → Option Seat → Event → Touched

@@ -1,7 +1,9 @@
 -- What a TVM, a confidential virtual machine, is made of.
 use Rattle.std.specs.Prelude.{ℕ, Bool, false, List, [], ◌∷◌, Option}
 use Rattle.cove_base.specs.InterruptFiles.{InterruptFile}
-use Rattle.cove_base.specs.Measurement.{Extension, Record, BoardRecord}
+use Rattle.cove_base.specs.Measurement.{BoardRecord, Extension, Record}
+use Rattle.cove_base.specs.declared.modes.Mode.{Mode}
+use Rattle.cove_base.specs.declared.modes.Mode.TheVariants.{Sv39x4}
 
 -- what a guest page shows: a page of the TVM's own with its words, or a page of the host's
 pub data Backing : Type 0 where
@@ -49,34 +51,35 @@ pub record Cpu : Type 0 where
   pub binding : Option Binding
 
 -- A TVM. Guest pages of its regions are private but for the shared ones. Table pages serve the leading parts of guest pages
--- that are in use at the third and the second level. The records are what register 0 was extended by, the extensions what
--- registers 1 to 4 were, each with its register, and `yet` are the harts that were inside at its last fence and have not left.
+-- that are in use, at each level above the leaves that its mode has. The records are what register 0 was extended by, the
+-- extensions what registers 1 to 4 were, each with its register, and `yet` are the harts that were inside at its last fence and
+-- have not left.
 pub record Tvm : Type 0 where
   pub number : ℕ
+  pub mode : Mode
   pub runnable : Bool
   pub regions : List Area
   pub shared : List ℕ
   pub allowed : List ℕ
   pub tables : List ℕ
-  pub thirds : List ℕ
-  pub seconds : List ℕ
+  pub prefixes : (level : ℕ) → List ℕ
   pub mappings : List Mapping
   pub records : List Record
   pub extensions : List Extension
   pub yet : List ℕ
   pub cpus : List Cpu
 
--- a TVM with nothing in it
+-- a TVM of a number of which nothing is known
 abbrev pub new_tvm : (number : ℕ) → Tvm
 new_tvm number = record {
   number = number;
+  mode = Sv39x4;
   runnable = false;
   regions = [];
   shared = [];
   allowed = [];
   tables = [];
-  thirds = [];
-  seconds = [];
+  prefixes = λ level. [];
   mappings = [];
   records = [];
   extensions = [];
@@ -84,6 +87,6 @@ new_tvm number = record {
   cpus = [];
 }
 
--- the new TVM that `create` adds on a board: its measurement begins with the board's record
-abbrev pub created : (number board : ℕ) → Tvm
-created number board = record (new_tvm number) { records = BoardRecord board ∷ [] }
+-- a TVM as it is created on a board, with tables of a mode: its measurement begins with the board's record
+abbrev pub created : (number : ℕ) → Mode → (board : ℕ) → Tvm
+created number mode board = record (new_tvm number) { mode = mode; records = BoardRecord board ∷ [] }

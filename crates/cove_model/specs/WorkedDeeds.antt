@@ -99,8 +99,11 @@ abbrev pub signalled : (delivery : Bool) → InterruptFile
 signalled delivery = record empty_file { pending = 5 ∷ []; enabled = 5 ∷ []; delivery = delivery }
 
 -- what a deed offers hart 0; what it leaves
+abbrev pub offered_in : State → Deed → Offer
+offered_in S deed = deed_offer S 0 first_seat deed
+
 abbrev pub offered : Deed → Offer
-offered deed = deed_offer running 0 first_seat deed
+offered deed = offered_in running deed
 
 abbrev pub performing : State → Deed → State
 performing S deed = performed S first_seat deed

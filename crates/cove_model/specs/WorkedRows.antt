@@ -1,6 +1,7 @@
 -- States by which the rows of calls of the host are read, one check and one outcome at a time.
 use Rattle.std.specs.Prelude.{ℕ, false, List, [], ◌∷◌, map, filter, replicate, slice_set, Option, Some, None}
 use Rattle.cove_base.specs.InterruptFiles.{InterruptFile, empty_file}
+use Rattle.cove_base.specs.declared.modes.Mode.TheVariants.{Sv48x4}
 use Rattle.cove_model.specs.Answers.{effect}
 use Rattle.cove_model.specs.Examples.{board}
 use Rattle.cove_model.specs.FirstChecks.{reply_of}
@@ -42,6 +43,10 @@ page_after S call p = page_at (after_call S call).pages p
 abbrev pub tvm_after : State → HostCall → Tvm
 tvm_after S call = tvm_at (after_call S call) 1
 
+-- a TVM as it is compared: the leading parts that its tables serve stand on a list, for each level
+abbrev pub by_levels : Tvm → Tvm × List (List ℕ)
+by_levels tvm = (record tvm { prefixes = λ level. [] }, map tvm.prefixes (1 ∷ 2 ∷ 3 ∷ []))
+
 abbrev pub mapping_after : State → HostCall → (guest : ℕ) → Option Mapping
 mapping_after S call guest = mapping_of (tvm_after S call) guest
 
@@ -77,6 +82,10 @@ far tvm = record tvm { regions = record { first = 512; count = 1 } ∷ []; mappi
 
 abbrev pub stray : Tvm → Tvm
 stray tvm = record tvm { mappings = mapped 512 (HostPage 7) Present ∷ [] }
+
+-- the TVM with tables of four levels, and a third page of them
+abbrev pub deep : Tvm → Tvm
+deep tvm = record tvm { mode = Sv48x4; tables = 3 ∷ tvm.tables }
 
 -- a board on which two pages of the host have words, and two are free, for a TVM that is built
 abbrev pub worded : State

@@ -6,6 +6,7 @@ ghost use Rattle.cove_base.specs.declared.calls.GuestAct.TheVariants.{Share};
 ghost use Rattle.cove_base.specs.declared.calls.HostCall.TheVariants.{Convert, Destroy, Finalize, Invalidate, Measured, Remove, Run, TvmFence, Validate, Zero};
 ghost use Rattle.cove_base.specs.declared.events.Event.TheVariants.{Exit};
 ghost use Rattle.cove_base.specs.declared.events.Exit.TheVariants.{Kicked, Wfi};
+ghost use Rattle.cove_base.specs.declared.modes.Mode.TheVariants.{Sv39x4};
 ghost use Rattle.cove_base.specs.declared.statuses.Status.TheVariants.{AlreadyAvailable, AlreadyStarted, Denied, InvalidAddress};
 ghost use Rattle.cove_base.specs.declared.walks.Target.TheVariants.{Access, Fetch};
 ghost use Rattle.cove_model.specs.Examples.{board, refused};
@@ -72,8 +73,8 @@ pub fn worked_guest_outcomes()
 
 /// What is measured of a TVM begins with the board's record and ends with its finalize record, and parts stand between them.
 pub fn worked_records()
-    ensures created { IsMeasured 0x20010 (created 1 0x20010) }
-    ensures of_another_board { IsMeasured 0x20010 (created 1 0x10010) → ⊥ }
+    ensures created { IsMeasured 0x20010 (created 1 Sv39x4 0x20010) }
+    ensures of_another_board { IsMeasured 0x20010 (created 1 Sv39x4 0x10010) → ⊥ }
     ensures built { AreBuilt 0x20010 (BoardRecord 0x20010 ∷ PageRecord 0x10000 [] ∷ VcpuRecord 0 ∷ []) }
     ensures without_its_board { AreBuilt 0x20010 (VcpuRecord 0 ∷ []) → ⊥ }
     ensures sealed { AreSealed 0x20010 (BoardRecord 0x20010 ∷ VcpuRecord 0 ∷ FinalizeRecord 0x10000 7 ∷ []) }

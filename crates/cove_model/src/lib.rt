@@ -7,6 +7,7 @@
 mod examples;
 mod guest_examples;
 mod laws;
+mod mode_examples;
 mod promises;
 mod rules;
 mod script_examples;
@@ -31,6 +32,7 @@ pub use laws::{
     still_rounds_are_last, translations_are_usable, unbuilt_calls_are_refused,
     vcpus_are_bound_apart,
 };
+pub use mode_examples::{worked_levels, worked_modes};
 pub use promises::{first_failing_checks_answer, host_reads_show_host_memory};
 pub use rules::{alone_law, boundary_law, store_law, table_law};
 pub use script_examples::{refused_lines, worked_scripts};

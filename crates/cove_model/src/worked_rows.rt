@@ -13,7 +13,7 @@ ghost use Rattle.cove_model.specs.HostCalls.{ForgetsAll, ForgetsGuests, Keeps, r
 ghost use Rattle.cove_model.specs.Owners.{AsData, AsRoot, AsState, AsTable, AsVcpu, Converting, Free, Given, Host, is_free, zeros};
 ghost use Rattle.cove_model.specs.States.{new_cpu, on_tvm};
 ghost use Rattle.cove_model.specs.Tvms.{Begun, Blocked, HostPage, new_tvm, NotBegun, OwnPage, Present};
-ghost use Rattle.cove_model.specs.WorkedRows.{after_call, all_free, answer, answers, bound, bound_so, cpu_after, crowded, failing, far, filed, joined_by, mapped_early, mapping_after, neighbours, page_after, pending_nine, stray, tvm_after, unmapped, waiting_so, with_cpu, with_first_tvm, with_page, worded};
+ghost use Rattle.cove_model.specs.WorkedRows.{after_call, all_free, answer, answers, bound, bound_so, by_levels, cpu_after, crowded, failing, far, filed, joined_by, mapped_early, mapping_after, neighbours, page_after, pending_nine, stray, tvm_after, unmapped, waiting_so, with_cpu, with_first_tvm, with_page, worded};
 
 /// Pages that go to the monitor and come back.
 pub fn worked_conversions()
@@ -152,11 +152,11 @@ pub fn worked_mappings()
         ≡ answer Failed 2 ∷ [] }
     ensures measured_in_order { failing (with_first_tvm stray) (Measured 1 0xa001 0xb001 17 0x200001)
         ≡ answers (Denied ∷ InvalidParam ∷ replicate 8 InvalidAddress ++ AlreadyAvailable ∷ []) ++ answer Failed 1 ∷ [] }
-    ensures measures { tvm_after worded (Measured 1 0x8000 0xa000 2 0x10000) ≡ record tenant {
+    ensures measures { by_levels (tvm_after worded (Measured 1 0x8000 0xa000 2 0x10000)) ≡ by_levels (record tenant {
       runnable = false;
       mappings = mapped 16 (OwnPage 10 (5 ∷ [])) Present ∷ mapped 17 (OwnPage 11 (6 ∷ [])) Present ∷ [];
       records = PageRecord 0x10000 (5 ∷ []) ∷ PageRecord 0x11000 (6 ∷ []) ∷ [];
-    } }
+    }) }
     ensures measured_pages { map (page_after worded (Measured 1 0x8000 0xa000 2 0x10000)) (8 ∷ 9 ∷ 10 ∷ 11 ∷ [])
         ≡ Host (5 ∷ []) ∷ Host (6 ∷ []) ∷ Given 1 (AsData 16) ∷ Given 1 (AsData 17) ∷ [] }
     ensures zero_of_no_tvm { failing running (Zero 9 0xa000 0 0x14000) ≡ answers (InvalidParam ∷ Denied ∷ InvalidParam ∷ []) }
@@ -171,7 +171,8 @@ pub fn worked_mappings()
     ensures zero_without_a_table { failing (with_first_tvm far) (Zero 1 0xa000 1 0x200000) ≡ answer Failed 1 ∷ [] }
     ensures zero_in_order { failing (on_tvm 1 stray building) (Zero 1 0xb001 17 0x200001)
         ≡ answers (Denied ∷ InvalidParam ∷ replicate 5 InvalidAddress ++ AlreadyAvailable ∷ []) ++ answer Failed 1 ∷ [] }
-    ensures zeroes { tvm_after running (Zero 1 0xa000 1 0x14000) ≡ record tenant { mappings = tenant.mappings ++ mapped 20 (OwnPage 10 zeros) Present ∷ [] } }
+    ensures zeroes { by_levels (tvm_after running (Zero 1 0xa000 1 0x14000))
+        ≡ by_levels (record tenant { mappings = tenant.mappings ++ mapped 20 (OwnPage 10 zeros) Present ∷ [] }) }
     ensures zero_takes_its_page { page_after running (Zero 1 0xa000 1 0x14000) 10 ≡ Given 1 (AsData 20) }
     ensures zero_uses_a_table { missing_tables (tvm_after (on_tvm 1 (λ tvm. record (far tvm) { tables = 8 ∷ 9 ∷ 7 ∷ [] }) running) (Zero 1 0xa000 1 0x200000)) 0x200000 1 ≡ 0 }
     ensures shared_of_no_tvm { failing running (Shared 9 0x8000 0 0x12000) ≡ answers (InvalidParam ∷ Denied ∷ InvalidParam ∷ []) }
@@ -187,9 +188,9 @@ pub fn worked_mappings()
     ensures shared_in_order { failing (on_tvm 1 stray building) (Shared 1 0xa001 17 0x200001)
         ≡ answers (Denied ∷ InvalidParam ∷ replicate 5 InvalidAddress ++ AlreadyAvailable ∷ []) ++ answer Failed 1 ∷ [] }
     ensures shared_of_a_shared_page { failing (with_first_tvm (λ tvm. record tvm { mappings = mapped 19 (HostPage 7) Present ∷ [] })) (Shared 1 0x7000 1 0x12000) ≡ [] }
-    ensures shares { tvm_after unmapped (Shared 1 0x8000 2 0x12000) ≡ record tenant {
+    ensures shares { by_levels (tvm_after unmapped (Shared 1 0x8000 2 0x12000)) ≡ by_levels (record tenant {
       mappings = mapped 18 (HostPage 8) Present ∷ mapped 19 (HostPage 9) Present ∷ [];
-    } }
+    }) }
     ensures shared_stays_the_hosts { (after_call unmapped (Shared 1 0x8000 2 0x12000)).pages ≡ running.pages }
 {}
 

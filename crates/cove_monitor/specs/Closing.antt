@@ -11,7 +11,7 @@ use Rattle.cove_model.specs.Cached.{IsCached, IsQuiet}
 use Rattle.cove_model.specs.Fits.{Fits}
 use Rattle.cove_model.specs.Histories.{Begins, Legal, after, own}
 use Rattle.cove_model.specs.States.{ended_by}
-use Rattle.cove_monitor.specs.Seats.{IsHartOf, SeatValue, part_of}
+use Rattle.cove_monitor.specs.Seats.{IsHartOf, SeatValue, part_of_seat}
 
 -- A hart has met a history: its entries in it are those that it made, the history begins with the one that it saw last,
 -- and as many of its lines are ended as it ended.
@@ -33,7 +33,7 @@ AreSeats table script seats =
 -- each hart has met a history
 abbrev pub HaveMet : ScriptValue → (history : List Entry) → List SeatValue → Type 0
 HaveMet script history seats =
-    (k : ℕ) → k < length seats → IfSome (slice_get seats k) (λ seat. HasMet script history seat.held (part_of seat))
+    (k : ℕ) → k < length seats → IfSome (slice_get seats k) (λ seat. HasMet script history seat.held (part_of_seat seat))
 
 -- a history of a script: legal, with each hart's lines once and in order, with hits and walks as the harts' TLBs have
 -- them, and in which no page changes hands while a TLB names it
@@ -46,7 +46,7 @@ pub record IsHistoryOf (script : ScriptValue) (history : List Entry) : Type 0 wh
 -- a hart that has made no entry, seen none, made no walk and did not come to a full history
 pub record IsNewSeat (table : TableId) (script : ScriptValue) (number : ℕ) (seat : SeatValue) : Type 0 where
   pub is : IsNumber table script number seat
-  pub part : part_of seat ≡ new_part script number
+  pub part : part_of_seat seat ≡ new_part script number
   pub unwalked : seat.held.walked ≡ None
   pub unfilled : seat.full ≡ false
 

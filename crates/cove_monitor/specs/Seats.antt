@@ -20,8 +20,8 @@ pub record SeatValue : Type 0 where
   pub full : Bool
 
 -- the part that its pass carries
-abbrev pub part_of : SeatValue → HartPart
-part_of seat = hart_of seat.pass.part
+abbrev pub part_of_seat : SeatValue → HartPart
+part_of_seat seat = hart_of seat.pass.part
 
 -- the name of no table, and a pass that carries nothing
 abbrev pub no_table : TableId
@@ -71,4 +71,4 @@ HasKeeper table mon (Some pass) = IsKeeper table mon pass
 -- a hart is one of the monitor of this table and script
 pub record IsHartOf (table : TableId) (script : ScriptValue) (seat : SeatValue) : Type 0 where
   pub table_is : seat.pass.table ≡ table
-  pub script_is : (part_of seat).script ≡ script
+  pub script_is : (part_of_seat seat).script ≡ script

@@ -5,7 +5,7 @@ ghost use Rattle.cove_board.specs.Parts.{hart_of};
 ghost use Rattle.cove_board.specs.Passes.{IsHartPass};
 ghost use Rattle.cove_hart.specs.HartStates.{hart_value};
 ghost use Rattle.cove_monitor.specs.Closing.{AreSeats, HasMet, HaveMet, IsHistoryOf};
-ghost use Rattle.cove_monitor.specs.Seats.{IsKeeper, IsHartOf, IsSeat, part_of};
+ghost use Rattle.cove_monitor.specs.Seats.{IsKeeper, IsHartOf, IsSeat, part_of_seat};
 
 use crate::harts::Hart;
 use crate::monitors::{Kept, Monitor};

@@ -12,7 +12,7 @@ ghost use Rattle.cove_hart.specs.Needs.{next_need};
 ghost use Rattle.cove_hart.specs.declared.needs.Need.TheVariants.{Event, Walk};
 ghost use Rattle.cove_monitor.specs.Closing.{AreFitting, AreNewSeats, HasMet};
 ghost use Rattle.cove_monitor.specs.Events.{HasStepped, HasWalked};
-ghost use Rattle.cove_monitor.specs.Seats.{IsFull, IsKeeper, IsHartOf, IsSeat, part_of};
+ghost use Rattle.cove_monitor.specs.Seats.{IsFull, IsKeeper, IsHartOf, IsSeat, part_of_seat};
 
 use crate::closing::held_meeting;
 use crate::events::held_event;
@@ -71,7 +71,7 @@ impl Hart {
 
     /// What the hart needs next, while lines up to a phase may be made.
     pub fn next(&self, script: &Script, phase: u32) -> Need
-        requires { (part_of self.now).script ≡ script.now }
+        requires { (part_of_seat self.now).script ≡ script.now }
         ensures need { result ≡ next_need script.now self.now.held phase }
         ensures prepared { result ≡ Event → IsPrepared script.now self.now.held }
     {
@@ -80,7 +80,7 @@ impl Hart {
 
     /// The phase of the hart's next line, where one is left.
     pub fn phase(&self, script: &Script) -> Option<u32>
-        requires { (part_of self.now).script ≡ script.now }
+        requires { (part_of_seat self.now).script ≡ script.now }
         ensures { result ≡ option_map (λ line. line.phase) (next_line script.now self.now.held.hart self.now.held.ended) }
     {
         self.state.phase(script)
@@ -89,7 +89,7 @@ impl Hart {
     /// Whether the hart came to a full history at its last event, with a line left.
     pub fn is_full(&self) -> bool
         ensures full { result ≡ self.now.full }
-        ensures limit { IsTrue result → IsFull self.now.held (part_of self.now) }
+        ensures limit { IsTrue result → IsFull self.now.held (part_of_seat self.now) }
     {
         self.full
     }
@@ -106,7 +106,7 @@ impl Hart {
         requires hart { IsHartOf board.now.table script.now self.old }
         requires needed { (target : Target) × (next_need script.now self.old.held phase ≡ Walk target) }
         ensures hart { IsHartOf board.now.table script.now self.new }
-        ensures walked { HasWalked script.now phase self.old.held self.new.held (part_of self.old) (part_of self.new) }
+        ensures walked { HasWalked script.now phase self.old.held self.new.held (part_of_seat self.old) (part_of_seat self.new) }
         ensures full { self.new.full ≡ self.old.full }
         ensures steps { steps.new ≡ steps.old + 1 }
     {
@@ -131,7 +131,7 @@ impl Hart {
         requires prepared { IsPrepared script.now self.old.held }
         ensures hart { IsHartOf board.now.table script.now self.new }
         ensures keeper { IsKeeper board.now.table mon.new result.1 }
-        ensures stepped { HasStepped script.now result.0 self.old.held self.new.held (part_of self.old) (part_of self.new) }
+        ensures stepped { HasStepped script.now result.0 self.old.held self.new.held (part_of_seat self.old) (part_of_seat self.new) }
         ensures full { IsTrue self.new.full ↔ IsLimit result.0 }
     {
         let Some(pass) = self.pass.take() else {
@@ -148,7 +148,7 @@ impl Hart {
         requires hart { IsHartOf board.now.table board.now.script self }
         requires keeper { IsKeeper board.now.table mon.now keeper }
         ensures same { result ≡ keeper }
-        ensures met { HasMet board.now.script mon.now.history self.held (part_of self) }
+        ensures met { HasMet board.now.script mon.now.history self.held (part_of_seat self) }
     {
         let Hart {
             state,

@@ -7,7 +7,7 @@ ghost use Rattle.cove_core.specs.Stepped.{IsLimit};
 ghost use Rattle.cove_hart.specs.Needs.{next_need};
 ghost use Rattle.cove_hart.specs.declared.needs.Need.TheVariants.{Walk};
 ghost use Rattle.cove_monitor.specs.Events.{HasStepped, HasWalked};
-ghost use Rattle.cove_monitor.specs.Seats.{IsKeeper, IsHartOf, part_of};
+ghost use Rattle.cove_monitor.specs.Seats.{IsKeeper, IsHartOf, part_of_seat};
 
 use crate::harts::Hart;
 use crate::rooms::Room;
@@ -58,7 +58,7 @@ impl<B: Room> Kept<B> {
         requires hart { IsHartOf B.table script.now hart.old }
         requires prepared { IsPrepared script.now hart.old.held }
         ensures hart { IsHartOf B.table script.now hart.new }
-        ensures stepped { HasStepped script.now result hart.old.held hart.new.held (part_of hart.old) (part_of hart.new) }
+        ensures stepped { HasStepped script.now result hart.old.held hart.new.held (part_of_seat hart.old) (part_of_seat hart.new) }
         ensures full { IsTrue hart.new.full ↔ IsLimit result }
     {
         let Some(keeper) = self.pass.take() else {
@@ -102,7 +102,7 @@ impl<B: Room> Monitor<B> {
         requires hart { IsHartOf B.table script.now hart.old }
         requires needed { (target : Target) × (next_need script.now hart.old.held phase ≡ Walk target) }
         ensures hart { IsHartOf B.table script.now hart.new }
-        ensures walked { HasWalked script.now phase hart.old.held hart.new.held (part_of hart.old) (part_of hart.new) }
+        ensures walked { HasWalked script.now phase hart.old.held hart.new.held (part_of_seat hart.old) (part_of_seat hart.new) }
         ensures full { hart.new.full ≡ hart.old.full }
         ensures steps { steps.new ≡ steps.old + 1 }
     {
@@ -116,7 +116,7 @@ impl<B: Room> Monitor<B> {
         requires hart { IsHartOf B.table script.now hart.old }
         requires prepared { IsPrepared script.now hart.old.held }
         ensures hart { IsHartOf B.table script.now hart.new }
-        ensures stepped { HasStepped script.now result hart.old.held hart.new.held (part_of hart.old) (part_of hart.new) }
+        ensures stepped { HasStepped script.now result hart.old.held hart.new.held (part_of_seat hart.old) (part_of_seat hart.new) }
         ensures full { IsTrue hart.new.full ↔ IsLimit result }
     {
         let mut kept = self.kept.lock(rt);

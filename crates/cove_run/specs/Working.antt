@@ -3,7 +3,7 @@ use Rattle.std.specs.Prelude.{◌≡◌, ℕ, ◌<◌, ◌≤◌, false, List, l
 use Rattle.std.specs.Option.{option_map}
 use Rattle.cove_base.specs.HartLines.{next_line}
 use Rattle.cove_base.specs.Scripts.{ScriptValue}
-use Rattle.cove_monitor.specs.Seats.{IsFull, SeatValue, part_of}
+use Rattle.cove_monitor.specs.Seats.{IsFull, SeatValue, part_of_seat}
 
 -- a hart has no line left
 abbrev pub IsIdle : ScriptValue → SeatValue → Type 0
@@ -37,4 +37,4 @@ pub record HasFull (seats : List SeatValue) : Type 0 where
   pub place : ℕ
   pub seat : SeatValue
   pub stands : slice_get seats place ≡ Some seat
-  pub full : IsFull seat.held (part_of seat)
+  pub full : IsFull seat.held (part_of_seat seat)

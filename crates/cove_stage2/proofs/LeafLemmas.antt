@@ -1,70 +1,71 @@
-use Rattle.std.proofs.Common.{◌≡◌, ◌≢◌, ℕ, ◌/◌, ◌%◌, ◌^◌, ◌<◌, ◌∙◌, Bool, true, false, List, set, sym, ap, arith}
-use Rattle.cove_base.proofs.TableLemmas.{below-absent}
-use Rattle.cove_base.proofs.TreeLemmas.{root≢last, middle≢last, last-number}
-use Rattle.cove_base.proofs.TreeStores.{IsStoreAt, OnlyAt, leaf-store, tree-leaf, spare-kept, leaf≢table}
+use Rattle.std.proofs.Common.{◌≡◌, ◌≢◌, ℕ, zero, suc, ◌/◌, ◌%◌, ◌^◌, ◌<◌, ◌∙◌, Bool, true, false, List, set, refl, ap, inl, inr, arith}
+use Rattle.cove_base.proofs.TableLemmas.{leaf≢table, next-cases}
+use Rattle.cove_base.proofs.TreeLemmas.{slot-depth, slot-number}
+use Rattle.cove_base.proofs.TreeStores.{IsStoreAt, OnlyAt, leaf-store, tree-leaf, spare-kept}
 use Rattle.cove_base.specs.Places.{table_word}
 use Rattle.cove_base.specs.TableWords.{blocked}
-use Rattle.cove_base.specs.Tables.{Slot, InRoot, InMiddle, InLast, IsLinkSlot, below, entry_at, leaf_at, next_table, present, StandsAt, IsLeaf, IsLink, NoTable, ATable, IsTree}
-use Rattle.cove_stage2.specs.Changes.{ChangesLeaf, KeepsLinks, unblocked, slot_place}
+use Rattle.cove_base.specs.Tables.{Slot, At, IsLinkSlot, entry_at, entry_in, slots_at, next_table, present, StandsAt, IsLeaf, IsLink, NoTable, ATable, IsTree}
+use Rattle.cove_stage2.specs.Changes.{ChangesLeaf, IsOnWay, KeepsLinks, unblocked, slot_place}
 
 -- the table that an entry names is on the board
 pub named-board : (pages root entry : ℕ) → IsLink pages root entry → entry ≢ 0 → entry / 1024 < pages
 named-board pages root entry (NoTable e) some = absurd (some e)
 named-board pages root entry (ATable page out e) some = let on = out.0 in omega (arith, on)
 
--- where the way to a guest page is linked, its leaf stands at its place
-pub leaf-stands : (pages root : ℕ) (words : List ℕ) (g : ℕ) → IsTree pages root words → g < 2 ^ 29 → entry_at pages root words (InMiddle (g / 512)) ≢ 0 → StandsAt pages root words (InLast g) (slot_place pages root words (InLast g))
-leaf-stands pages root words g tree h some = from (entry_at pages root words (InMiddle (g / 512))) (tree.links (InMiddle (g / 512)) (omega arith)) some where
-  from : (entry : ℕ) → IsLink pages root entry → entry ≢ 0 → (page : ℕ) × (entry ≡ next_table page) × (table_word pages (entry / 1024) (g % 512) ≡ table_word pages page (g % 512))
-  from entry (NoTable e) other = absurd (other e)
-  from entry (ATable page out e) other =
-      let named : entry / 1024 ≡ page = omega arith in
-      (page, e, ap (λ p. table_word pages p (g % 512)) named)
+-- ---- where slots stand
 
--- it is the word of the table that the way names
-pub below-place : (pages root : ℕ) (words : List ℕ) (g page : ℕ) → entry_at pages root words (InMiddle (g / 512)) ≡ next_table page → slot_place pages root words (InLast g) ≡ table_word pages page (g % 512)
-below-place pages root words g page named =
-    let is : entry_at pages root words (InMiddle (g / 512)) / 1024 ≡ page = omega (arith, named) in
-    ap (λ p. table_word pages p (g % 512)) is
+module _ (pages root : ℕ) (words : List ℕ) where
+  -- a slot stands below the table that the slot above it names
+  pub named-stands : (d n page : ℕ) → entry_in pages root words d (n / 512) ≡ next_table page → StandsAt pages root words (At (suc d) n) (slot_place pages root words (At (suc d) n))
+  named-stands d n page named =
+      let is : entry_in pages root words d (n / 512) / 1024 ≡ page = omega (arith, named) in
+      (page, named, ap (λ p. table_word pages p (n % 512)) is)
 
--- where a leaf isn't 0, the way to it is linked
-pub leaf-linked : (pages root : ℕ) (words : List ℕ) (g : ℕ) → leaf_at pages root words g ≢ 0 → entry_at pages root words (InMiddle (g / 512)) ≢ 0
-leaf-linked pages root words g some none =
-    some (ap (λ k. below pages words k (g % 512)) none ∙ below-absent pages words (g % 512))
+  -- where a slot stands is its place
+  pub place-is : (a : Slot) (place : ℕ) → StandsAt pages root words a place → place ≡ slot_place pages root words a
+  place-is (At zero n) place at = at
+  place-is (At (suc d) n) place (page, named, at) =
+      let is : page ≡ entry_in pages root words d (n / 512) / 1024 = omega (arith, named) in
+      at ∙ ap (λ p. table_word pages p (n % 512)) is
+
+  -- where an entry isn't 0, its slot stands at its place
+  pub some-stands : (a : Slot) → entry_at pages root words a ≢ 0 → StandsAt pages root words a (slot_place pages root words a)
+  some-stands (At zero n) some = refl
+  some-stands (At (suc d) n) some = elim (next-cases pages (entry_in pages root words d (n / 512))) [
+    | inl (page, named) ↦ named-stands d n page named
+    | inr none ↦ absurd (some (none words (n % 512)))
+  ]
+
+  -- and so does one where the slots above it name tables
+  pub way-stands : (d n : ℕ) → ((a : Slot) → IsOnWay d n a → (page : ℕ) × (entry_at pages root words a ≡ next_table page)) → StandsAt pages root words (At d n) (slot_place pages root words (At d n))
+  way-stands zero n way = refl
+  way-stands (suc d) n way = let above = way (At d (n / 512)) (inl refl) in named-stands d n above.0 above.1
+
+-- ---- leaves
 
 -- what a store of a leaf changes
-pub leaf-changes : (pages root : ℕ) (words : List ℕ) (g leaf : ℕ) → IsTree pages root words → g < 2 ^ 29 → IsLeaf leaf → entry_at pages root words (InMiddle (g / 512)) ≢ 0 → ChangesLeaf pages root words (set words (slot_place pages root words (InLast g)) leaf) g leaf × KeepsLinks pages root words (set words (slot_place pages root words (InLast g)) leaf)
-leaf-changes pages root words g leaf tree h is some = (
+pub leaf-changes : (pages root leaves : ℕ) (words : List ℕ) (g leaf place : ℕ) → IsTree pages root leaves words → g < slots_at leaves → IsLeaf leaf → StandsAt pages root words (At leaves g) place
+    → ChangesLeaf pages root leaves words (set words place leaf) g leaf × KeepsLinks pages root leaves words (set words place leaf)
+leaf-changes pages root leaves words g leaf place tree h is at = (
   record {
-    tree = tree-leaf pages root words _ g leaf tree only is;
+    tree = tree-leaf pages root leaves words _ g leaf tree only is;
     here = only.here;
-    others = λ k low d. only.others (InLast k) low (λ e. d (last-number k g e));
+    others = λ k low d. only.others (At leaves k) low (λ e. d (slot-number leaves leaves k g e));
     length = only.length;
   },
   record {
     links = links;
-    spare = λ page spare. spare-kept pages root words (InLast g) (slot_place pages root words (InLast g)) leaf page store only (leaf≢table leaf page is) spare;
+    spare = λ page spare. spare-kept pages root leaves words (At leaves g) place leaf page store only (leaf≢table leaf page is) spare;
   },
 ) where
-  store : IsStoreAt pages root words (InLast g) (slot_place pages root words (InLast g))
-  store = record { tree = tree; slot = h; at = leaf-stands pages root words g tree h some }
+  store : IsStoreAt pages root leaves words (At leaves g) place
+  store = record { tree = tree; slot = h; at = at }
 
-  only : OnlyAt pages root words (set words (slot_place pages root words (InLast g)) leaf) (InLast g) leaf
-  only = leaf-store pages root words g (slot_place pages root words (InLast g)) leaf store
+  only : OnlyAt pages root words (set words place leaf) (At leaves g) leaf
+  only = leaf-store pages root leaves words place leaf g store is
 
-  links : (a : Slot) → IsLinkSlot a → entry_at pages root (set words (slot_place pages root words (InLast g)) leaf) a ≡ entry_at pages root words a
-  links (InRoot n) low = only.others (InRoot n) low (root≢last n g)
-  links (InMiddle n) low = only.others (InMiddle n) low (middle≢last n g)
-  links (InLast k) low = absurd low
-
--- so does one in the table that the way names
-module _ {pages root : ℕ} {words : List ℕ} (tree : IsTree pages root words) {g : ℕ} (low : g < 2 ^ 29) {leaf : ℕ} (is : IsLeaf leaf) (table : ℕ)
-    (named : entry_at pages root words (InMiddle (g / 512)) ≡ next_table table) {place : ℕ} (at : place ≡ table_word pages table (g % 512)) where
-  pub place-is : place ≡ slot_place pages root words (InLast g)
-  place-is = at ∙ sym (below-place pages root words g table named)
-
-  pub leaf-set : ChangesLeaf pages root words (set words place leaf) g leaf × KeepsLinks pages root words (set words place leaf)
-  leaf-set = rw place-is (leaf-changes pages root words g leaf tree low is (λ none. omega arith))
+  links : (a : Slot) → IsLinkSlot leaves a → entry_at pages root (set words place leaf) a ≡ entry_at pages root words a
+  links (At d n) low = only.others (At d n) low.1 (λ e. let deep : d ≡ leaves = slot-depth d leaves n g e in omega (arith, low.0))
 
 pub present-some : (leaf page : ℕ) (shared : Bool) → leaf ≡ present page shared → leaf ≢ 0
 present-some leaf page false e none = omega arith

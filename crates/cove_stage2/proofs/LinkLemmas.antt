@@ -1,12 +1,10 @@
-use Rattle.std.proofs.Common.{◌≡◌, ◌≢◌, ℕ, zero, suc, ◌+◌, ◌-◌, ◌/◌, ◌^◌, ◌<◌, ◌≤◌, ◌==◌, ◌∙◌, List, [], get_or, set, take, length, refl, sym, ap, subst, arith, inl, inr}
+use Rattle.std.proofs.Common.{◌≡◌, ◌≢◌, ℕ, zero, suc, ◌-◌, ◌/◌, ◌<◌, ◌≤◌, ◌∙◌, List, [], get_or, set, take, length, refl, sym, ap, subst, arith, inl, inr}
 use Rattle.std.proofs.lemmas.List.{get_or-take, length-take-le}
-use Rattle.cove_base.specs.Executions.{flag}
-use Rattle.cove_base.proofs.TreeLemmas.{link-slot, slot-cases, root≢middle}
+use Rattle.cove_base.proofs.TreeLemmas.{link-slot, slot-cases}
 use Rattle.cove_base.proofs.TreeStores.{IsStoreAt, OnlyAt, link-store, tree-link, spare-kept}
-use Rattle.cove_base.specs.Tables.{Slot, InRoot, InMiddle, IsLinkSlot, entry_at, next_table, StandsAt, IsLink, NoTable, ATable, IsTree, IsSpare, IsPool}
-use Rattle.cove_stage2.specs.declared.tables.Level.TheVariants.{Root, Middle}
-use Rattle.cove_stage2.specs.Changes.{LinksTable, NamesWay, KeepsLinks}
-use Rattle.cove_stage2.specs.Lacked.{blocks_touched, absent_among, tables_lacked}
+use Rattle.cove_base.specs.Tables.{Slot, At, IsSlot, IsLinkSlot, entry_at, slots_at, next_table, StandsAt, IsLink, NoTable, ATable, IsTree, IsSpare, IsPool}
+use Rattle.cove_stage2.specs.Changes.{ChangesLeaf, IsOnWay, NamesWay, KeepsLinks}
+use Rattle.cove_stage2.specs.Links.{LinksTable, LinksWay}
 use Rattle.cove_stage2.specs.MapStores.{next_page, link_stores, pool_after}
 
 -- where a slot names a table, nothing is stored, and no page leaves the pool
@@ -23,9 +21,14 @@ pub named-table : (pages root entry : ℕ) → IsLink pages root entry → entry
 named-table pages root entry (NoTable e) some = absurd (some e)
 named-table pages root entry (ATable page out e) some = omega arith
 
+pub next-some : (entry page : ℕ) → entry ≡ next_table page → entry ≢ 0
+next-some entry page e none = omega arith
+
+-- ---- one slot
+
 -- a slot that names a table
-pub links-some : (pages root : ℕ) (words : List ℕ) (a : Slot) → IsTree pages root words → IsLinkSlot a → entry_at pages root words a ≢ 0 → LinksTable pages root words words a (entry_at pages root words a / 1024)
-links-some pages root words a tree slot some = record {
+pub links-some : (pages root leaves : ℕ) (words : List ℕ) (a : Slot) → IsTree pages root leaves words → IsLinkSlot leaves a → entry_at pages root words a ≢ 0 → LinksTable pages root leaves words words a (entry_at pages root words a / 1024)
+links-some pages root leaves words a tree slot some = record {
   tree = tree;
   named = named-table pages root (entry_at pages root words a) (tree.links a slot) some;
   kept = λ _. refl;
@@ -33,39 +36,32 @@ links-some pages root words a tree slot some = record {
   length = refl;
 }
 
--- a slot where the next page of the pool was linked
-pub links-none : (pages root : ℕ) (words : List ℕ) (a : Slot) (place : ℕ) (pool : List ℕ) → IsTree pages root words → IsLinkSlot a → StandsAt pages root words a place → IsPool pages root words pool → entry_at pages root words a ≡ 0 → 0 < length pool → LinksTable pages root words (set words place (next_table (next_page pool))) a (next_page pool)
-links-none pages root words a place pool tree slot at spare none some =
-    let store : IsStoreAt pages root words a place = record { tree = tree; slot = link-slot a slot; at = at } in
-    let next = spare.each (length pool - 1) (omega arith) in
-    let only = link-store pages root words a place (next_page pool) slot store none next in
-    record {
-      tree = tree-link pages root words (set words place (next_table (next_page pool))) a (next_page pool) tree slot next only;
-      named = only.here;
-      kept = λ d. absurd (d none);
-      others = only.others;
-      length = only.length;
-    }
+-- a slot where the next page of the pool is linked
+module _ (pages root leaves : ℕ) (words : List ℕ) (a : Slot) (place : ℕ) (pool : List ℕ) (tree : IsTree pages root leaves words) (slot : IsLinkSlot leaves a)
+    (at : StandsAt pages root words a place) (spare : IsPool pages root words pool) (none : entry_at pages root words a ≡ 0) (some : 0 < length pool) where
+  abbrev linked_words : List ℕ
+  linked_words = set words place (next_table (next_page pool))
 
--- what is left of the pool is a pool
-pub pool-none : (pages root : ℕ) (words : List ℕ) (a : Slot) (place : ℕ) (pool : List ℕ) → IsTree pages root words → IsLinkSlot a → StandsAt pages root words a place → IsPool pages root words pool → entry_at pages root words a ≡ 0 → 0 < length pool → IsPool pages root (set words place (next_table (next_page pool))) (take (length pool - 1) pool)
-pool-none pages root words a place pool tree slot at spare none some = record {
-  each = λ k h.
-      let low : k < length pool - 1 = omega (arith, short, h) in
-      subst (IsSpare pages root (set words place (next_table (next_page pool)))) (sym (get_or-take (length pool - 1) pool k 0 low)) (kept k low);
-  differ = λ j k hj hk e.
-      let lj : j < length pool - 1 = omega (arith, short, hj) in
-      let lk : k < length pool - 1 = omega (arith, short, hk) in
-      spare.differ j k (omega arith) (omega arith) (sym (get_or-take (length pool - 1) pool j 0 lj) ∙ e ∙ get_or-take (length pool - 1) pool k 0 lk);
-} where
+  store : IsStoreAt pages root leaves words a place
+  store = record { tree = tree; slot = link-slot leaves a slot; at = at }
+
+  next : IsSpare pages root words (next_page pool)
+  next = spare.each (length pool - 1) (omega arith)
+
+  only : OnlyAt pages root words linked_words a (next_table (next_page pool))
+  only = link-store pages root leaves words a place (next_page pool) store none next
+
+  pub links-none : LinksTable pages root leaves words linked_words a (next_page pool)
+  links-none = record {
+    tree = tree-link pages root leaves words linked_words a (next_page pool) tree slot next only;
+    named = only.here;
+    kept = λ d. absurd (d none);
+    others = only.others;
+    length = only.length;
+  }
+
   short : length (take (length pool - 1) pool) ≡ length pool - 1
   short = length-take-le (length pool - 1) pool (omega arith)
-
-  store : IsStoreAt pages root words a place
-  store = record { tree = tree; slot = link-slot a slot; at = at }
-
-  only : OnlyAt pages root words (set words place (next_table (next_page pool))) a (next_table (next_page pool))
-  only = link-store pages root words a place (next_page pool) slot store none (spare.each (length pool - 1) (omega arith))
 
   other : (k : ℕ) → k < length pool - 1 → next_table (next_page pool) ≢ next_table (get_or pool k 0)
   other k low e =
@@ -73,82 +69,98 @@ pool-none pages root words a place pool tree slot at spare none some = record {
       let last : k ≡ length pool - 1 = spare.differ k (length pool - 1) (omega arith) (omega arith) same in
       omega arith
 
-  kept : (k : ℕ) → k < length pool - 1 → IsSpare pages root (set words place (next_table (next_page pool))) (get_or pool k 0)
-  kept k low = spare-kept pages root words a place (next_table (next_page pool)) (get_or pool k 0) store only (other k low) (spare.each k (omega arith))
+  kept : (k : ℕ) → k < length pool - 1 → IsSpare pages root linked_words (get_or pool k 0)
+  kept k low = spare-kept pages root leaves words a place (next_table (next_page pool)) (get_or pool k 0) store only (other k low) (spare.each k (omega arith))
 
--- one guest page touches one block
-blocks_touched-one : (size g : ℕ) → blocks_touched size g 1 ≡ 1
-blocks_touched-one size g =
-    let same : (g + 0) / size ≡ g / size = ap (λ x. x / size) (omega arith) in
-    omega (arith, same)
+  -- what is left of the pool is a pool
+  pub pool-none : IsPool pages root linked_words (take (length pool - 1) pool)
+  pool-none = record {
+    each = λ k h.
+        let low : k < length pool - 1 = omega (arith, short, h) in
+        subst (IsSpare pages root linked_words) (sym (get_or-take (length pool - 1) pool k 0 low)) (kept k low);
+    differ = λ j k hj hk e.
+        let lj : j < length pool - 1 = omega (arith, short, hj) in
+        let lk : k < length pool - 1 = omega (arith, short, hk) in
+        spare.differ j k (omega arith) (omega arith) (sym (get_or-take (length pool - 1) pool j 0 lj) ∙ e ∙ get_or-take (length pool - 1) pool k 0 lk);
+  }
 
--- the tables that one mapping lacks
-pub tables_lacked-one : (pages root : ℕ) (words : List ℕ) (g : ℕ) → tables_lacked pages root words g 1 ≡ flag (entry_at pages root words (InRoot (g / 512 / 512)) == 0) + flag (entry_at pages root words (InMiddle (g / 512)) == 0)
-tables_lacked-one pages root words g =
-    let first : g / 2 ^ 18 ≡ g / 512 / 512 = omega arith in
-    let upper : absent_among pages root words Root (g / 2 ^ 18) (blocks_touched (2 ^ 18) g 1) ≡ flag (entry_at pages root words (InRoot (g / 512 / 512)) == 0) + 0 =
-    ap (absent_among pages root words Root (g / 2 ^ 18)) (blocks_touched-one (2 ^ 18) g) ∙ ap (λ n. flag (entry_at pages root words (InRoot n) == 0) + 0) first in
-    let lower : absent_among pages root words Middle (g / 512) (blocks_touched 512 g 1) ≡ flag (entry_at pages root words (InMiddle (g / 512)) == 0) + 0 =
-    ap (absent_among pages root words Middle (g / 512)) (blocks_touched-one 512 g) in
-    omega (arith, upper, lower)
+-- a table that another slot names stays
+pub link-keeps : (pages root leaves : ℕ) (old new : List ℕ) (a : Slot) (page : ℕ) → LinksTable pages root leaves old new a page → (b : Slot) → IsSlot b → entry_at pages root old b ≢ 0 → entry_at pages root new b ≡ entry_at pages root old b
+link-keeps pages root leaves old new a page links b slot some = elim (slot-cases b a) [
+  | inl same ↦ ap (entry_at pages root new) same ∙ links.kept (λ none. some (ap (entry_at pages root old) same ∙ none)) ∙ ap (entry_at pages root old) (sym same)
+  | inr other ↦ links.others b slot other
+]
 
--- enough pages for the upper table
-pub enough-upper : (pages root : ℕ) (words : List ℕ) (g n : ℕ) → tables_lacked pages root words g 1 ≤ n → entry_at pages root words (InRoot (g / 512 / 512)) ≡ 0 → 0 < n
-enough-upper pages root words g n most none =
-    let upper : flag (entry_at pages root words (InRoot (g / 512 / 512)) == 0) ≡ 1 = ap (λ e. flag (e == 0)) none in
-    let is = tables_lacked-one pages root words g in
-    omega (arith, most, upper, is)
+-- ---- the way to a slot
 
--- and for the lower one
-pub enough-lower : (pages root : ℕ) (words : List ℕ) (g : ℕ) (pool : List ℕ) → tables_lacked pages root words g 1 ≤ length pool → entry_at pages root words (InMiddle (g / 512)) ≡ 0 → 0 < length (pool_after (entry_at pages root words (InRoot (g / 512 / 512))) pool)
-enough-lower pages root words g pool most none = from (entry_at pages root words (InRoot (g / 512 / 512))) refl where
-  lower : flag (entry_at pages root words (InMiddle (g / 512)) == 0) ≡ 1
-  lower = ap (λ e. flag (e == 0)) none
+-- what is above some depth is above the next
+pub raised : (d : ℕ) (a : Slot) → IsLinkSlot d a → IsLinkSlot (suc d) a
+raised d (At c m) slot = (omega (arith, slot.0), slot.1)
 
-  from : (entry : ℕ) → entry_at pages root words (InRoot (g / 512 / 512)) ≡ entry → 0 < length (pool_after entry pool)
-  from zero e =
-      let upper : flag (entry_at pages root words (InRoot (g / 512 / 512)) == 0) ≡ 1 = ap (λ k. flag (k == 0)) e in
-      let is = tables_lacked-one pages root words g in
-      let two : 2 ≤ length pool = omega (arith, most, upper, lower, is) in
-      let short = length-take-le (length pool - 1) pool (omega arith) in
-      omega (arith, two, short)
-  from (suc entry) e =
-      let is = tables_lacked-one pages root words g in
-      omega (arith, most, lower, is)
+-- a slot on the way is above the one that it leads to
+pub on-way-link : (d n : ℕ) (a : Slot) → n < slots_at d → IsOnWay d n a → IsLinkSlot d a
+on-way-link zero n a low on = absurd on
+on-way-link (suc d) n a low (inl same) =
+    let above : n / 512 < slots_at d = omega arith in
+    subst (IsLinkSlot (suc d)) (sym same) (omega arith, above)
+on-way-link (suc d) n a low (inr on) = raised d a (on-way-link d (n / 512) a (omega arith) on)
 
--- two tables linked one after the other are the way
-pub way-linked : (pages root : ℕ) (old mid new : List ℕ) (g p q : ℕ) → g < 2 ^ 29 → LinksTable pages root old mid (InRoot (g / 512 / 512)) p → LinksTable pages root mid new (InMiddle (g / 512)) q → NamesWay pages root old new g
-way-linked pages root old mid new g p q h first second = record {
-  upper = (p, second.others (InRoot (g / 512 / 512)) (omega arith) (root≢middle (g / 512 / 512) (g / 512)) ∙ first.named);
-  lower = (q, second.named);
-  kept = λ a slot some. elim (slot-cases a (InMiddle (g / 512))) [
-    | inl same ↦
-        let before = first.others a (link-slot a slot) (λ e. root≢middle (g / 512 / 512) (g / 512) (sym e ∙ same)) in
-        let named : entry_at pages root mid (InMiddle (g / 512)) ≢ 0 = λ none. some (sym before ∙ ap (entry_at pages root mid) same ∙ none) in
-        ap (entry_at pages root new) same ∙ second.kept named ∙ ap (entry_at pages root mid) (sym same) ∙ before
-    | inr d ↦
-        second.others a (link-slot a slot) d ∙ elim (slot-cases a (InRoot (g / 512 / 512))) as (λ _. entry_at pages root mid a ≡ entry_at pages root old a) [
-          | inl same ↦
-              let named : entry_at pages root old (InRoot (g / 512 / 512)) ≢ 0 = λ none. some (ap (entry_at pages root old) same ∙ none) in
-              ap (entry_at pages root mid) same ∙ first.kept named ∙ ap (entry_at pages root old) (sym same)
-          | inr e ↦ first.others a (link-slot a slot) e
-        ]
-  ];
-  others = λ a slot d e. second.others a (link-slot a slot) e ∙ first.others a (link-slot a slot) d;
-}
+-- so is one above the leaves, where the slot that the way leads to is no deeper than they are
+pub on-way-above : (leaves d n : ℕ) (a : Slot) → d ≤ leaves → n < slots_at d → IsOnWay d n a → IsLinkSlot leaves a
+on-way-above leaves d n (At c m) deep low on = let slot = on-way-link d n (At c m) low on in (omega (arith, slot.0), slot.1)
+
+-- no slot is on the way to one at its own depth
+pub off-way : (d n m : ℕ) → n < slots_at d → IsOnWay d n (At d m) → ⊥
+off-way d n m low on = let slot = on-way-link d n (At d m) low on in let less = slot.0 in omega arith
+
+-- nothing is on the way to a slot of the root
+pub way-none : (pages root : ℕ) (words : List ℕ) (n : ℕ) → LinksWay pages root words words 0 n
+way-none pages root words n = record { way = λ a on. absurd on; kept = λ a slot some. refl; others = λ a slot off. refl }
+
+-- one more table on the way
+pub way-next : (pages root leaves : ℕ) (old mid new : List ℕ) (d n page : ℕ) → n < slots_at (suc d) → LinksWay pages root old mid d (n / 512) → LinksTable pages root leaves mid new (At d (n / 512)) page
+    → LinksWay pages root old new (suc d) n
+way-next pages root leaves old mid new d n page low above links = record {
+  way = way;
+  kept = λ a slot some.
+      let before = above.kept a slot some in
+      link-keeps pages root leaves mid new (At d (n / 512)) page links a slot (λ none. some (sym before ∙ none)) ∙ before;
+  others = λ a slot off. links.others a slot (λ e. off (inl e)) ∙ above.others a slot (λ on. off (inr on));
+} where
+  way : (a : Slot) → IsOnWay (suc d) n a → (q : ℕ) × (entry_at pages root new a ≡ next_table q)
+  way a (inl same) = (page, ap (entry_at pages root new) same ∙ links.named)
+  way a (inr on) =
+      let named = above.way a on in
+      let slot = link-slot d a (on-way-link d (n / 512) a (omega arith) on) in (
+        named.0,
+        link-keeps pages root leaves mid new (At d (n / 512)) page links a slot (next-some (entry_at pages root mid a) named.0 named.1) ∙ named.1,
+      )
+
+-- the slot itself is as it was
+pub way-itself : (pages root : ℕ) (old new : List ℕ) (d n : ℕ) → n < slots_at d → LinksWay pages root old new d n → entry_at pages root new (At d n) ≡ entry_at pages root old (At d n)
+way-itself pages root old new d n low way = way.others (At d n) low (off-way d n n low)
 
 -- a change that keeps the links keeps the way
-pub way-kept : (pages root : ℕ) (old mid new : List ℕ) (g : ℕ) → g < 2 ^ 29 → NamesWay pages root old mid g → KeepsLinks pages root mid new → NamesWay pages root old new g
-way-kept pages root old mid new g h way kept = record {
-  upper = (way.upper.0, kept.links (InRoot (g / 512 / 512)) (omega arith) ∙ way.upper.1);
-  lower = (way.lower.0, kept.links (InMiddle (g / 512)) (omega arith) ∙ way.lower.1);
-  kept = λ a slot some. kept.links a slot ∙ way.kept a slot some;
-  others = λ a slot d e. kept.links a slot ∙ way.others a slot d e;
+pub way-kept : (pages root leaves : ℕ) (old mid new : List ℕ) (g : ℕ) → g < slots_at leaves → LinksWay pages root old mid leaves g → KeepsLinks pages root leaves mid new → NamesWay pages root leaves old new g
+way-kept pages root leaves old mid new g low way kept = record {
+  way = λ a on. let named = way.way a on in (named.0, kept.links a (on-way-link leaves g a low on) ∙ named.1);
+  kept = λ a slot some. kept.links a slot ∙ way.kept a (link-slot leaves a slot) some;
+  others = λ a slot off. kept.links a slot ∙ way.others a (link-slot leaves a slot) off;
 }
 
 -- and a pool
-pub pool-kept : (pages root : ℕ) (old new pool : List ℕ) → IsPool pages root old pool → KeepsLinks pages root old new → IsPool pages root new pool
-pool-kept pages root old new pool spare kept = record {
+pub pool-kept : (pages root leaves : ℕ) (old new pool : List ℕ) → IsPool pages root old pool → KeepsLinks pages root leaves old new → IsPool pages root new pool
+pool-kept pages root leaves old new pool spare kept = record {
   each = λ k h. kept.spare (get_or pool k 0) (spare.each k h);
   differ = spare.differ;
+}
+
+-- a leaf that changes after the way to it was linked changes alone
+pub leaf-kept : (pages root leaves : ℕ) (old mid new : List ℕ) (g leaf : ℕ) → g < slots_at leaves → LinksWay pages root old mid leaves g → length mid ≡ length old → ChangesLeaf pages root leaves mid new g leaf
+    → ChangesLeaf pages root leaves old new g leaf
+leaf-kept pages root leaves old mid new g leaf low way same changes = record {
+  tree = changes.tree;
+  here = changes.here;
+  others = λ h h-low d. changes.others h h-low d ∙ way.others (At leaves h) h-low (off-way leaves g h low);
+  length = changes.length ∙ same;
 }

@@ -4,17 +4,18 @@ use Rattle.std.proofs.Common.{◌≡◌, ◌≢◌, ℕ, zero, suc, ◌+◌, ◌
 use Rattle.std.proofs.lemmas.Bool.{cases_eq, eq-eqb, ne_eqb}
 use Rattle.std.proofs.lemmas.List.{get_or-take, get_or_default, length-take-le}
 use Rattle.cove_base.proofs.StoreLemmas.{length-stored, stored-append}
-use Rattle.cove_base.proofs.TreeLemmas.{entry-stands, link-slot, middle≢last, root≢last, root≢middle}
+use Rattle.cove_base.proofs.TreeLemmas.{entry-stands, named-above}
 use Rattle.cove_model.specs.Machine.{all_words, table_word, AllAllowed, stored}
-use Rattle.cove_base.specs.Tables.{Slot, InRoot, InMiddle, InLast, IsPresent, IsLinkSlot, IsPool, IsTree, StandsAt, entry_at, leaf_at, next_table, present}
+use Rattle.cove_base.specs.Tables.{Slot, At, IsPresent, IsLinkSlot, IsPool, IsSlot, IsTree, StandsAt, entry_at, leaf_at, next_table, present, slots_at}
 use Rattle.cove_model.proofs.OwnedStores.{IsOwnPlace}
 use Rattle.cove_model.proofs.SharedLeaves.{stores_count_shared}
 use Rattle.cove_model.specs.TableLaw.{shared_leaves, shared_once}
-use Rattle.cove_stage2.proofs.LawfulLemmas.{IsLinked, allowed-append, given_in, linked_way, lower, middle_place, upper, way_is}
-use Rattle.cove_stage2.proofs.LeafLemmas.{leaf-changes, leaf-stands}
-use Rattle.cove_stage2.proofs.LinkLemmas.{links-none}
+use Rattle.cove_stage2.proofs.LackedLemmas.{enough-above}
+use Rattle.cove_stage2.proofs.LawfulLemmas.{IsLinkedWay, allowed-append, given_in, here, here_same, here_stands, joined, way_linked}
+use Rattle.cove_stage2.proofs.LeafLemmas.{leaf-changes, way-stands}
+use Rattle.cove_stage2.proofs.LinkLemmas.{link-keeps, links-none, next-some, way-itself}
 use Rattle.cove_stage2.proofs.SharedWords.{is_shared, not_shared, once_is}
-use Rattle.cove_stage2.specs.Changes.{KeepsLinks, slot_place}
+use Rattle.cove_stage2.specs.Changes.{slot_place}
 use Rattle.cove_stage2.specs.Lacked.{tables_lacked}
 use Rattle.cove_stage2.specs.LawfulTables.{AreGiven}
 use Rattle.cove_stage2.specs.MapStores.{link_stores, map_stores, next_page, pool_after, pool_left, slot_stores, way_stores}
@@ -89,15 +90,15 @@ own_again pages words new tvm place stay own = record {
 }
 
 -- what links the table of a slot
-one_link : (pages : ℕ) (start words : List ℕ) (tvm root : ℕ) (pool : List ℕ) (a : Slot) → IsTree pages root words → AreGiven pages words tvm root pool → IsLinkSlot a
+one_link : (pages : ℕ) (start words : List ℕ) (tvm root leaves : ℕ) (pool : List ℕ) (a : Slot) → IsTree pages root leaves words → AreGiven pages words tvm root pool → IsSlot a
     → ((p : ℕ) → p < pages → get_or words p 0 ≡ get_or start p 0) → StandsAt pages root words a (slot_place pages root words a)
     → AllAllowed (IsOwnLink pages start tvm) words (slot_stores pages root words pool a)
-one_link pages start words tvm root pool a tree of slot stay at = go (entry_at pages root words a) refl
+one_link pages start words tvm root leaves pool a tree of slot stay at = go (entry_at pages root words a) refl
   where
     go : (entry : ℕ) → entry_at pages root words a ≡ entry → AllAllowed (IsOwnLink pages start tvm) words (link_stores entry (slot_place pages root words a) pool)
     go zero e = (
       record {
-        own = own_again pages start words tvm (slot_place pages root words a) stay (given_in pages words tvm root pool tree of a (slot_place pages root words a) (link-slot a slot) at);
+        own = own_again pages start words tvm (slot_place pages root words a) stay (given_in pages words tvm root leaves pool tree of a (slot_place pages root words a) slot at);
         empty = sym (entry-stands pages root words a (slot_place pages root words a) at) ∙ e;
         page = next_page pool;
         names = refl;
@@ -107,10 +108,10 @@ one_link pages start words tvm root pool a tree of slot stay at = go (entry_at p
     go (suc entry) e = tt
 
 -- a page of the pool stays there, or serves the slot
-still_found : (pages root : ℕ) (words pool : List ℕ) (a : Slot) (page : ℕ) → IsTree pages root words → IsPool pages root words pool → IsLinkSlot a
+still_found : (pages root leaves : ℕ) (words pool : List ℕ) (a : Slot) (page : ℕ) → IsTree pages root leaves words → IsPool pages root words pool → IsLinkSlot leaves a
     → StandsAt pages root words a (slot_place pages root words a) → Contains pool page
     → Contains (pool_after (entry_at pages root words a) pool) page ⊎ (entry_at pages root (stored words (slot_stores pages root words pool a)) a ≡ next_table page)
-still_found pages root words pool a page tree spare slot at there = go (entry_at pages root words a) refl
+still_found pages root leaves words pool a page tree spare slot at there = go (entry_at pages root words a) refl
   where
     is : get_or pool there.0 0 ≡ page
     is = get_or_default pool there.0 0 page there.1 ∙ there.2
@@ -122,7 +123,7 @@ still_found pages root words pool a page tree spare slot at there = go (entry_at
         let short = length-take-le (length pool - 1) pool (omega arith) in
         elim (cases_eq there.0 (length pool - 1)) [
           | inl last ↦ inr
-              ((links-none pages root words a (slot_place pages root words a) pool tree slot at spare e (omega arith)).named
+              ((links-none pages root leaves words a (slot_place pages root words a) pool tree slot at spare e (omega arith)).named
               ∙ ap next_table (ap (λ k. get_or pool k 0) (sym last) ∙ is))
           | inr off ↦ inl (there.0, omega (arith, low, short, off), get_or-take (length pool - 1) pool there.0 page (omega (arith, low, off)) ∙ there.2)
         ]
@@ -134,114 +135,119 @@ still_found pages root words pool a page tree spare slot at there = go (entry_at
 pub record MapLeaves (pages harts root tvm : ℕ) (words new pool left : List ℕ) (leaf : ℕ) : Type 0 where
   pub elsewhere : (place : ℕ) → (IsOwnPlace pages words tvm place → ⊥) → get_or new place 0 ≡ get_or words place 0
   pub counted : (q : ℕ) → length words ≡ all_words pages harts → shared_leaves pages new q ≡ shared_leaves pages words q + shared_once q leaf
-  pub found : (p : ℕ) → Contains pool p → Contains left p ⊎ ((a : Slot) × IsLinkSlot a × (entry_at pages root new a ≡ next_table p))
+  pub found : (p : ℕ) → Contains pool p → Contains left p ⊎ ((a : Slot) × IsSlot a × (entry_at pages root new a ≡ next_table p))
 
-module _ (pages : ℕ) (words pool : List ℕ) (tvm root g : ℕ) (low : g < 2 ^ 29) (tree : IsTree pages root words) (spare : IsPool pages root words pool) (of : AreGiven pages words tvm root pool) (enough : tables_lacked pages root words g 1 ≤ length pool) where
-  abbrev upper_slot : Slot
-  upper_slot = InRoot (g / 512 / 512)
+module _ (pages : ℕ) (words pool : List ℕ) (tvm root leaves : ℕ) (tree : IsTree pages root leaves words) (spare : IsPool pages root words pool) (of : AreGiven pages words tvm root pool) where
+  abbrev WayTo : (d n : ℕ) → Type 0
+  WayTo d n =
+      IsLinkedWay pages 0 0 words words (stored words (way_stores pages root words pool d n)) tvm root leaves (pool_left pages root words pool d n) d n
+      (way_stores pages root words pool d n)
 
-  abbrev lower_slot : Slot
-  lower_slot = InMiddle (g / 512)
+  -- what the links on the way to a slot leave
+  record WayLeaves (d n : ℕ) : Type 0 where
+    own : AllAllowed (IsOwnLink pages words tvm) words (way_stores pages root words pool d n)
+    found :
+        (p : ℕ) → Contains pool p
+        → Contains (pool_left pages root words pool d n) p
+        ⊎ ((a : Slot) × IsSlot a × (entry_at pages root (stored words (way_stores pages root words pool d n)) a ≡ next_table p))
 
-  abbrev first_stores : List (ℕ × ℕ)
-  first_stores = slot_stores pages root words pool (InRoot (g / 512 / 512))
+  module _ (d n : ℕ) (deep : suc d ≤ leaves) (low : n < slots_at (suc d)) (enough : tables_lacked pages root words (suc d) n 1 ≤ length pool) (above : WayTo d (n / 512))
+      (leaves_above : WayLeaves d (n / 512)) where
+    abbrev mid : List ℕ
+    mid = stored words (way_stores pages root words pool d (n / 512))
 
-  abbrev middle : List ℕ
-  middle = stored words (slot_stores pages root words pool (InRoot (g / 512 / 512)))
+    abbrev left : List ℕ
+    left = pool_left pages root words pool d (n / 512)
 
-  abbrev rest : List ℕ
-  rest = pool_after (entry_at pages root words (InRoot (g / 512 / 512))) pool
+    stands : StandsAt pages root mid (At d (n / 512)) (slot_place pages root mid (At d (n / 512)))
+    stands = here_stands pages 0 0 words words tvm root leaves pool tree spare of d n deep low enough above
 
-  abbrev second_stores : List (ℕ × ℕ)
-  second_stores = slot_stores pages root middle rest (InMiddle (g / 512))
+    abbrev stores : List (ℕ × ℕ)
+    stores = slot_stores pages root mid left (At d (n / 512))
 
+    abbrev linked : List ℕ
+    linked = stored mid stores
+
+    found_on : (p : ℕ) → Contains pool p
+        → Contains (pool_after (entry_at pages root mid (At d (n / 512))) left) p ⊎ ((b : Slot) × IsSlot b × (entry_at pages root linked b ≡ next_table p))
+    found_on p there = elim (leaves_above.found p there) [
+      | inl still ↦ elim (still_found pages root leaves mid left (At d (n / 512)) p above.tree above.pool_is (deep, omega arith) stands still) [
+        | inl left_there ↦ inl left_there
+        | inr named ↦ inr (At d (n / 512), omega arith, named)
+      ]
+      | inr (b, slot, named) ↦
+          let one = here pages 0 0 words words tvm root leaves pool tree spare of d n deep low enough above in
+          inr (b, slot, link-keeps pages root leaves mid linked (At d (n / 512)) one.page one.links b slot (next-some (entry_at pages root mid b) p named) ∙ named)
+    ]
+
+    leaves_on : WayLeaves (suc d) n
+    leaves_on = record {
+      own = allowed-append (IsOwnLink pages words tvm) words (way_stores pages root words pool d (n / 512)) stores leaves_above.own
+          (one_link pages words mid tvm root leaves left (At d (n / 512)) above.tree above.of (omega arith) above.words_stay stands);
+      found = λ p there.
+          subst (λ ws. Contains (pool_left pages root words pool (suc d) n) p ⊎ ((b : Slot) × IsSlot b × (entry_at pages root ws b ≡ next_table p)))
+          (sym (joined pages 0 0 words words tvm root leaves pool tree spare of d n deep low enough above))
+          (subst (λ entry. Contains (pool_after entry left) p ⊎ ((b : Slot) × IsSlot b × (entry_at pages root linked b ≡ next_table p)))
+          (here_same pages 0 0 words words tvm root leaves pool tree spare of d n deep low enough above) (found_on p there));
+    }
+
+  way_leaves : (d n : ℕ) → d ≤ leaves → n < slots_at d → tables_lacked pages root words d n 1 ≤ length pool → WayLeaves d n
+  way_leaves zero n deep low enough = record { own = tt; found = λ p there. inl there }
+  way_leaves (suc d) n deep low enough =
+      let fits = enough-above pages root words d n (length pool) enough in
+      leaves_on d n deep low enough (way_linked pages 0 0 words words tvm root leaves pool tree spare of d (n / 512) (omega arith) (omega arith) fits)
+      (way_leaves d (n / 512) (omega arith) (omega arith) fits)
+
+module _ (pages : ℕ) (words pool : List ℕ) (tvm root leaves g : ℕ) (low : g < slots_at leaves) (tree : IsTree pages root leaves words) (spare : IsPool pages root words pool) (of : AreGiven pages words tvm root pool)
+    (enough : tables_lacked pages root words leaves g 1 ≤ length pool) where
   abbrev last : List ℕ
-  last = stored middle second_stores
+  last = stored words (way_stores pages root words pool leaves g)
 
-  first : IsLinked pages 0 0 words words middle tvm root rest (InRoot (g / 512 / 512)) first_stores
-  first = upper pages 0 0 words words pool tvm root g low tree spare of enough
+  way : IsLinkedWay pages 0 0 words words last tvm root leaves (pool_left pages root words pool leaves g) leaves g (way_stores pages root words pool leaves g)
+  way = way_linked pages 0 0 words words tvm root leaves pool tree spare of leaves g (omega arith) low enough
 
-  second : IsLinked pages 0 0 words middle last tvm root (pool_after (entry_at pages root middle (InMiddle (g / 512))) rest) (InMiddle (g / 512)) second_stores
-  second = lower pages 0 0 words words pool tvm root g low tree spare of enough
+  links : WayLeaves pages words pool tvm root leaves tree spare of leaves g
+  links = way_leaves pages words pool tvm root leaves tree spare of leaves g (omega arith) low enough
 
-  lower_at : StandsAt pages root middle lower_slot (slot_place pages root middle lower_slot)
-  lower_at = middle_place pages root middle (g / 512) first.page first.links.named
-
-  same_middle : entry_at pages root middle lower_slot ≡ entry_at pages root words lower_slot
-  same_middle = first.links.others lower_slot (omega arith) (λ e. root≢middle (g / 512 / 512) (g / 512) (sym e))
-
-  way_linked : entry_at pages root last lower_slot ≢ 0
-  way_linked = linked_way pages 0 0 words words pool tvm root g low tree spare of enough
-
-  stay_last : (p : ℕ) → p < pages → get_or last p 0 ≡ get_or words p 0
-  stay_last p on = second.words_stay p on ∙ first.words_stay p on
-
-  links_own : AllAllowed (IsOwnLink pages words tvm) words (way_stores pages root words pool g)
-  links_own =
-      allowed-append (IsOwnLink pages words tvm) words first_stores second_stores
-      (one_link pages words words tvm root pool upper_slot tree of (omega arith) (λ p on. refl) refl)
-      (one_link pages words middle tvm root rest lower_slot first.tree first.of (omega arith) first.words_stay lower_at)
-
-  abbrev way_words : List ℕ
-  way_words = stored words (way_stores pages root words pool g)
-
-  way_same : way_words ≡ last
-  way_same = way_is pages 0 0 words words pool tvm root g low tree spare of enough
-
-  module _ (page : ℕ) (shared : Bool) (small : page < 2 ^ 16) (none : leaf_at pages root words g ≡ 0) where
+  module _ (page : ℕ) (shared : Bool) (small : page < 2 ^ 16) (none : leaf_at pages root leaves words g ≡ 0) where
     abbrev leaf_place : ℕ
-    leaf_place = slot_place pages root last (InLast g)
+    leaf_place = slot_place pages root last (At leaves g)
 
-    leaf_at_place : StandsAt pages root last (InLast g) leaf_place
-    leaf_at_place = leaf-stands pages root last g second.tree low way_linked
+    leaf_stands : StandsAt pages root last (At leaves g) leaf_place
+    leaf_stands = way-stands pages root last leaves g way.way.way
 
     leaf_own : IsOwnPlace pages words tvm leaf_place
-    leaf_own = own_again pages words last tvm leaf_place stay_last
-        (given_in pages last tvm root (pool_after (entry_at pages root middle lower_slot) rest) second.tree second.of (InLast g) leaf_place low leaf_at_place)
+    leaf_own =
+        own_again pages words last tvm leaf_place way.words_stay
+        (given_in pages last tvm root leaves (pool_left pages root words pool leaves g) way.tree way.of (At leaves g) leaf_place low leaf_stands)
 
     leaf_empty : get_or last leaf_place 0 ≡ 0
-    leaf_empty =
-        sym (entry-stands pages root last (InLast g) leaf_place leaf_at_place)
-        ∙ second.links.others (InLast g) low (λ e. middle≢last (g / 512) g (sym e))
-        ∙ first.links.others (InLast g) low (λ e. root≢last (g / 512 / 512) g (sym e)) ∙ none
+    leaf_empty = sym (entry-stands pages root last (At leaves g) leaf_place leaf_stands) ∙ way-itself pages root words last leaves g low way.way ∙ none
 
     abbrev done : List ℕ
     done = set last leaf_place (present page shared)
 
-    done_is : stored words (map_stores pages root words pool g (present page shared)) ≡ done
-    done_is =
-        stored-append words (way_stores pages root words pool g) ((slot_place pages root way_words (InLast g), present page shared) ∷ [])
-        ∙ ap (λ ws. set ws (slot_place pages root ws (InLast g)) (present page shared)) way_same
-
-    links_kept : KeepsLinks pages root last done
-    links_kept = (leaf-changes pages root last g (present page shared) second.tree low (IsPresent page shared small refl) way_linked).1
+    done_is : stored words (map_stores pages root leaves words pool g (present page shared)) ≡ done
+    done_is = stored-append words (way_stores pages root words pool leaves g) ((leaf_place, present page shared) ∷ [])
 
     found_again : (p : ℕ) → Contains pool p
-        → Contains (pool_left pages root words pool g) p ⊎ ((a : Slot) × IsLinkSlot a × (entry_at pages root done a ≡ next_table p))
-    found_again p there = elim (still_found pages root words pool upper_slot p tree spare (omega arith) refl there) [
-      | inl left_there ↦ elim (still_found pages root middle rest lower_slot p first.tree first.pool_is (omega arith) lower_at left_there) [
-        | inl still ↦ inl (subst (λ entry. Contains (pool_after entry rest) p) same_middle still)
-        | inr named ↦ inr (lower_slot, omega arith, links_kept.links lower_slot (omega arith) ∙ named)
-      ]
-      | inr named ↦ inr (
-        upper_slot,
-        omega arith,
-        links_kept.links upper_slot (omega arith) ∙ second.links.others upper_slot (omega arith) (root≢middle (g / 512 / 512) (g / 512)) ∙ named,
-      )
+        → Contains (pool_left pages root words pool leaves g) p ⊎ ((a : Slot) × IsSlot a × (entry_at pages root done a ≡ next_table p))
+    found_again p there = elim (links.found p there) [
+      | inl still ↦ inl still
+      | inr (a, slot, named) ↦
+          let kept = (leaf-changes pages root leaves last g (present page shared) leaf_place way.tree low (IsPresent page shared small refl) leaf_stands).1 in
+          inr (a, slot, kept.links a (named-above pages root leaves last way.tree a p slot named) ∙ named)
     ]
 
     -- what the mapping leaves
     pub map_leaves : (harts : ℕ)
-        → MapLeaves pages harts root tvm words (stored words (map_stores pages root words pool g (present page shared))) pool (pool_left pages root words pool g) (present page shared)
-    map_leaves harts = subst (λ ws. MapLeaves pages harts root tvm words ws pool (pool_left pages root words pool g) (present page shared)) (sym done_is) (record {
+        → MapLeaves pages harts root tvm words (stored words (map_stores pages root leaves words pool g (present page shared))) pool (pool_left pages root words pool leaves g) (present page shared)
+    map_leaves harts = subst (λ ws. MapLeaves pages harts root tvm words ws pool (pool_left pages root words pool leaves g) (present page shared)) (sym done_is) (record {
       elsewhere = λ place off.
           get_or-set_other last leaf_place place (present page shared) 0 (λ e. off (subst (IsOwnPlace pages words tvm) (sym e) leaf_own))
-          ∙ ap (λ ws. get_or ws place 0) (sym way_same)
-          ∙ elsewhere_links pages words tvm words (way_stores pages root words pool g) links_own place off;
+          ∙ elsewhere_links pages words tvm words (way_stores pages root words pool leaves g) links.own place off;
       counted = λ q size.
-          let long : length last ≡ all_words pages harts = length-stored middle second_stores ∙ length-stored words first_stores ∙ size in
-          count_store pages words tvm harts last leaf_place (present page shared) q long leaf_own leaf_empty
-          ∙ ap (λ n. n + shared_once q (present page shared))
-          (ap (λ ws. shared_leaves pages ws q) (sym way_same) ∙ count_links pages words tvm harts words (way_stores pages root words pool g) q size links_own);
+          count_store pages words tvm harts last leaf_place (present page shared) q (length-stored words (way_stores pages root words pool leaves g) ∙ size) leaf_own leaf_empty
+          ∙ ap (λ n. n + shared_once q (present page shared)) (count_links pages words tvm harts words (way_stores pages root words pool leaves g) q size links.own);
       found = found_again;
     })

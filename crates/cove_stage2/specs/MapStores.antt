@@ -1,7 +1,7 @@
--- The stores of a mapping: the tables that its way lacks, the upper one first, and then the leaf.
+-- The stores of a mapping: the tables that its way lacks, the upper ones first, and then the leaf.
 use Rattle.std.specs.Prelude.{ℕ, zero, suc, ◌-◌, ◌/◌, List, [], ◌∷◌, ◌++◌, take, length, slice_index}
 use Rattle.cove_base.specs.Stores.{stored}
-use Rattle.cove_base.specs.Tables.{Slot, InRoot, InMiddle, InLast, entry_at, next_table}
+use Rattle.cove_base.specs.Tables.{Slot, At, entry_at, entry_in, next_table}
 use Rattle.cove_stage2.specs.Changes.{slot_place}
 
 -- a pool: its pages, and how many it has room for
@@ -27,21 +27,21 @@ pool_after (suc entry) pool = pool
 abbrev pub slot_stores : (pages root : ℕ) (words : List ℕ) (pool : List ℕ) → Slot → List (ℕ × ℕ)
 slot_stores pages root words pool a = link_stores (entry_at pages root words a) (slot_place pages root words a) pool
 
--- what links the tables on the way to a guest page
-abbrev pub way_stores : (pages root : ℕ) (words : List ℕ) (pool : List ℕ) (g : ℕ) → List (ℕ × ℕ)
-way_stores pages root words pool g =
-    let upper = slot_stores pages root words pool (InRoot (g / 512 / 512)) in
-    let left = pool_after (entry_at pages root words (InRoot (g / 512 / 512))) pool in
-    upper ++ slot_stores pages root (stored words upper) left (InMiddle (g / 512))
+-- what is left of the pool after the way to a slot was linked
+abbrev pub pool_left : (pages root : ℕ) (words pool : List ℕ) (depth n : ℕ) → List ℕ
+pool_left pages root words pool zero n = pool
+pool_left pages root words pool (suc depth) n =
+    pool_after (entry_in pages root words depth (n / 512)) (pool_left pages root words pool depth (n / 512))
 
--- what is left of the pool after the way to a guest page was linked
-abbrev pub pool_left : (pages root : ℕ) (words : List ℕ) (pool : List ℕ) (g : ℕ) → List ℕ
-pool_left pages root words pool g =
-    pool_after (entry_at pages root words (InMiddle (g / 512)))
-    (pool_after (entry_at pages root words (InRoot (g / 512 / 512))) pool)
+-- what links the tables on the way to a slot, from the root down
+abbrev pub way_stores : (pages root : ℕ) (words pool : List ℕ) (depth n : ℕ) → List (ℕ × ℕ)
+way_stores pages root words pool zero n = []
+way_stores pages root words pool (suc depth) n =
+    let above = way_stores pages root words pool depth (n / 512) in
+    above ++ slot_stores pages root (stored words above) (pool_left pages root words pool depth (n / 512)) (At depth (n / 512))
 
 -- what maps a guest page
-abbrev pub map_stores : (pages root : ℕ) (words : List ℕ) (pool : List ℕ) (g leaf : ℕ) → List (ℕ × ℕ)
-map_stores pages root words pool g leaf =
-    let way = way_stores pages root words pool g in
-    way ++ (slot_place pages root (stored words way) (InLast g), leaf) ∷ []
+abbrev pub map_stores : (pages root leaves : ℕ) (words pool : List ℕ) (g leaf : ℕ) → List (ℕ × ℕ)
+map_stores pages root leaves words pool g leaf =
+    let way = way_stores pages root words pool leaves g in
+    way ++ (slot_place pages root (stored words way) (At leaves g), leaf) ∷ []

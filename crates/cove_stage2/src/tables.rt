@@ -1,51 +1,48 @@
 ghost use Rattle.std.specs.Prelude.{◌≡◌, ◌≢◌, ◌+◌, ◌*◌, ◌/◌, length, ◌%◌, ◌^◌, ◌<◌, ◌≤◌, ℕ};
 ghost use Rattle.cove_base.specs.Executions.{flag};
 ghost use Rattle.cove_base.specs.Places.{table_word};
-ghost use Rattle.cove_base.specs.Tables.{below, entry_at, InMiddle, leaf_at, IsLeaf, IsLink, IsLinkSlot, IsPool, IsTree, next_table, present, StandsAt};
+ghost use Rattle.cove_base.specs.Modes.{guest_limit, leaves_of};
+ghost use Rattle.cove_base.specs.Tables.{At, below, entry_in, leaf_at, IsLeaf, IsLink, IsLinkSlot, IsPool, IsTree, present, slots_at, StandsAt};
 ghost use Rattle.cove_base.specs.declared.limits.TheConstants.{PAGE_LIMIT};
 ghost use Rattle.cove_base.specs.Unchanged.{Unchanged};
 ghost use Rattle.cove_base.specs.Stores.{fills, stored, AllAllowed};
 ghost use Rattle.cove_base.specs.TableWords.{blocked};
-ghost use Rattle.cove_stage2.specs.Changes.{ChangesLeaf, clear_stores, ClearsPage, KeepsLeaves, KeepsLinks, LinksTable, NamesWay, IsPresentLeaf, IsBlockedLeaf, unblocked, leaf_stores};
+ghost use Rattle.cove_stage2.specs.Changes.{ChangesLeaf, clear_stores, ClearsPage, KeepsLinks, NamesWay, IsPresentLeaf, IsBlockedLeaf, unblocked, leaf_stores};
 ghost use Rattle.cove_stage2.specs.Entries.{leaf_word, IsBoundedLeaf};
-ghost use Rattle.cove_stage2.specs.Lacked.{slot_of_level, absent_among, tables_lacked, LacksRest};
-ghost use Rattle.cove_stage2.specs.MapStores.{link_stores, map_stores, pool_after, pool_left, way_stores};
+ghost use Rattle.cove_stage2.specs.Lacked.{absent_among, tables_lacked, LacksRest};
+ghost use Rattle.cove_stage2.specs.Links.{LinkedWay, LinksTable, MayLinkWay};
+ghost use Rattle.cove_stage2.specs.MapStores.{link_stores, map_stores, pool_after, pool_left};
 ghost use Rattle.cove_stage2.specs.Walks.{WalksTo};
 
 use crate::entries::{Leaf, decode, encode};
 use crate::pools::Pool;
-use cove_base::{Gpn, PAGE_LIMIT, Page, Steps, Walked, Words, table_word};
+use cove_base::{Gpn, Mode, PAGE_LIMIT, Page, Steps, Walked, Words, table_word};
 use std::sync::ledger::Ledger;
 
-/// The upper two levels, whose entries name tables.
-#[derive(Clone, Copy)]
-enum Level {
-    Root,
-    Middle,
-}
-
-/// The tables of a TVM: where its root begins, and how many pages the board has.
+/// The tables of a TVM: where its root begins, how many pages the board has, and the mode, which says at which depth the leaves are.
 #[derive(Clone, Copy)]
 pub struct Tables {
     pub root: Page,
     pub pages: u32,
+    pub mode: Mode,
     pub ghost limit: { pages ≤ PAGE_LIMIT },
 }
 
 impl Tables {
     /// The leaf of a guest page.
     pub fn find<W: Words>(&self, w: &mut W, g: Gpn) -> Leaf
-        requires guest { g.0 < 2 ^ 29 }
-        requires tree { IsTree self.now.pages self.now.root.0 (W.words w.old) }
+        requires guest { g.0 < guest_limit self.now.mode }
+        requires tree { IsTree self.now.pages self.now.root.0 (leaves_of self.now.mode) (W.words w.old) }
         ensures leaf { leaf_word result
-            ≡ leaf_at self.now.pages self.now.root.0 (W.words w.old) g.0 }
+            ≡ leaf_at self.now.pages self.now.root.0 (leaves_of self.now.mode) (W.words w.old) g.0 }
         ensures within { IsBoundedLeaf result }
         ensures unchanged { Unchanged W.words W.clean W.guard w.old w.new }
     {
         decode(self.leaf(w, g))
     }
 
-    /// Walks to the leaf of a guest page, for a fetch or for an access to data, by at most three loads.
+    /// Walks to the leaf of a guest page, for a fetch or for an access to data: by at most three loads for Sv39x4, and four for
+    /// Sv48x4.
     pub fn walk<W: Words, L: Ledger>(
         &self,
         w: &mut W,
@@ -53,84 +50,66 @@ impl Tables {
         fetch: bool,
         steps: &mut Steps<L>,
     ) -> Walked
-        requires guest { g.0 < 2 ^ 29 }
-        requires tree { IsTree self.now.pages self.now.root.0 (W.words w.old) }
-        ensures walked { WalksTo fetch (leaf_at self.now.pages self.now.root.0 (W.words w.old) g.0) result }
-        ensures steps { steps.new ≤ steps.old + 3 }
+        requires guest { g.0 < guest_limit self.now.mode }
+        requires tree { IsTree self.now.pages self.now.root.0 (leaves_of self.now.mode) (W.words w.old) }
+        ensures walked { WalksTo fetch (leaf_at self.now.pages self.now.root.0 (leaves_of self.now.mode) (W.words w.old) g.0) result }
+        ensures steps { steps.new ≤ steps.old + 1 + leaves_of self.now.mode }
         ensures unchanged { Unchanged W.words W.clean W.guard w.old w.new }
     {
-        let n = (g.0 / 512) as u32;
-        steps.tick();
-        let middle = w.get(self.root_word(n / 512));
-        steps.tick();
-        let last = self.below(w, middle, n % 512);
-        steps.tick();
-        let leaf = self.below(w, last, (g.0 % 512) as u32);
-        walked(fetch, leaf)
+        walked(fetch, self.load(w, g, steps))
     }
 
     /// How many tables are missing for mappings of a run of guest pages.
     pub fn need<W: Words>(&self, w: &mut W, first: Gpn, count: u32) -> u32
-        requires guests { first.0 + count ≤ 2 ^ 29 }
-        requires tree { IsTree self.now.pages self.now.root.0 (W.words w.old) }
-        ensures lacked { result ≡ tables_lacked self.now.pages self.now.root.0 (W.words w.old) first.0 count }
+        requires guests { first.0 + count ≤ guest_limit self.now.mode }
+        requires tree { IsTree self.now.pages self.now.root.0 (leaves_of self.now.mode) (W.words w.old) }
+        ensures lacked { result ≡ tables_lacked self.now.pages self.now.root.0 (W.words w.old) (leaves_of self.now.mode) first.0 count }
         ensures unchanged { Unchanged W.words W.clean W.guard w.old w.new }
     {
-        if count == 0 {
-            return 0;
-        }
-        let first = first.0 as u32;
-        let last = first + (count - 1);
-        let lacked = self.absent(
-            w,
-            Level::Root,
-            first / 0x4_0000,
-            last / 0x4_0000 + 1 - first / 0x4_0000,
-        );
-        lacked + self.absent(w, Level::Middle, first / 512, last / 512 + 1 - first / 512)
+        self.lacked(w, self.mode.leaves(), first.0, count)
     }
 
-    /// Maps a guest page to a page, with tables out of the pool where its way lacks them, the upper one first.
+    /// Maps a guest page to a page, with tables out of the pool where its way lacks them, the upper ones first.
     pub fn map<W: Words>(&self, w: &mut W, g: Gpn, page: Page, shared: bool, pool: &mut Pool)
-        requires guest { g.0 < 2 ^ 29 }
+        requires guest { g.0 < guest_limit self.now.mode }
         requires page { page.0 < 2 ^ 16 }
-        requires tree { IsTree self.now.pages self.now.root.0 (W.words w.old) }
-        requires absent { leaf_at self.now.pages self.now.root.0 (W.words w.old) g.0 ≡ 0 }
+        requires tree { IsTree self.now.pages self.now.root.0 (leaves_of self.now.mode) (W.words w.old) }
+        requires absent { leaf_at self.now.pages self.now.root.0 (leaves_of self.now.mode) (W.words w.old) g.0 ≡ 0 }
         requires pool { IsPool self.now.pages self.now.root.0 (W.words w.old) pool.old.pages }
-        requires enough { tables_lacked self.now.pages self.now.root.0 (W.words w.old) g.0 1 ≤ length pool.old.pages }
+        requires enough { tables_lacked self.now.pages self.now.root.0 (W.words w.old) (leaves_of self.now.mode) g.0 1 ≤ length pool.old.pages }
         requires allowed { AllAllowed (W.allows (W.guard w.old)) (W.words w.old)
-            (map_stores self.now.pages self.now.root.0 (W.words w.old) pool.old.pages g.0 (present page.0 shared)) }
+            (map_stores self.now.pages self.now.root.0 (leaves_of self.now.mode) (W.words w.old) pool.old.pages g.0 (present page.0 shared)) }
         ensures stores { W.words w.new ≡ stored (W.words w.old)
-            (map_stores self.now.pages self.now.root.0 (W.words w.old) pool.old.pages g.0 (present page.0 shared)) }
-        ensures leaf { ChangesLeaf self.now.pages self.now.root.0 (W.words w.old) (W.words w.new) g.0 (present page.0 shared) }
-        ensures way { NamesWay self.now.pages self.now.root.0 (W.words w.old) (W.words w.new) g.0 }
-        ensures pool { pool.new.pages ≡ pool_left self.now.pages self.now.root.0 (W.words w.old) pool.old.pages g.0 }
-        ensures lost { length pool.new.pages + tables_lacked self.now.pages self.now.root.0 (W.words w.old) g.0 1
+            (map_stores self.now.pages self.now.root.0 (leaves_of self.now.mode) (W.words w.old) pool.old.pages g.0 (present page.0 shared)) }
+        ensures leaf { ChangesLeaf self.now.pages self.now.root.0 (leaves_of self.now.mode) (W.words w.old) (W.words w.new) g.0 (present page.0 shared) }
+        ensures way { NamesWay self.now.pages self.now.root.0 (leaves_of self.now.mode) (W.words w.old) (W.words w.new) g.0 }
+        ensures pool { pool.new.pages ≡ pool_left self.now.pages self.now.root.0 (W.words w.old) pool.old.pages (leaves_of self.now.mode) g.0 }
+        ensures lost { length pool.new.pages + tables_lacked self.now.pages self.now.root.0 (W.words w.old) (leaves_of self.now.mode) g.0 1
             ≡ length pool.old.pages }
         ensures room { pool.new.room ≡ pool.old.room }
         ensures spare { IsPool self.now.pages self.now.root.0 (W.words w.new) pool.new.pages }
-        ensures rest { LacksRest self.now.pages self.now.root.0 (W.words w.old) (W.words w.new) g.0 }
+        ensures rest { LacksRest self.now.pages self.now.root.0 (leaves_of self.now.mode) (W.words w.old) (W.words w.new) g.0 }
         ensures guard { W.guard w.new ≡ W.guard w.old }
     {
-        let table = self.link_way(w, g, pool);
-        self.set_below(w, g, table, encode(Leaf::Present { page, shared }));
+        let place = self.link_way(w, g, pool);
+        self.set_at(w, g, place, encode(Leaf::Present { page, shared }));
     }
 
     /// Blocks a present leaf since a number.
     pub fn block<W: Words>(&self, w: &mut W, g: Gpn, since: u64)
-        requires guest { g.0 < 2 ^ 29 }
+        requires guest { g.0 < guest_limit self.now.mode }
         requires since { since < 2 ^ 32 }
-        requires tree { IsTree self.now.pages self.now.root.0 (W.words w.old) }
-        requires present { IsPresentLeaf (leaf_at self.now.pages self.now.root.0 (W.words w.old) g.0) }
+        requires tree { IsTree self.now.pages self.now.root.0 (leaves_of self.now.mode) (W.words w.old) }
+        requires present { IsPresentLeaf (leaf_at self.now.pages self.now.root.0 (leaves_of self.now.mode) (W.words w.old) g.0) }
         requires allowed { AllAllowed (W.allows (W.guard w.old)) (W.words w.old)
-            (leaf_stores self.now.pages self.now.root.0 (W.words w.old) g.0
-            (blocked (leaf_at self.now.pages self.now.root.0 (W.words w.old) g.0) since)) }
+            (leaf_stores self.now.pages self.now.root.0 (leaves_of self.now.mode) (W.words w.old) g.0
+            (blocked (leaf_at self.now.pages self.now.root.0 (leaves_of self.now.mode) (W.words w.old) g.0) since)) }
         ensures stores { W.words w.new ≡ stored (W.words w.old)
-            (leaf_stores self.now.pages self.now.root.0 (W.words w.old) g.0
-            (blocked (leaf_at self.now.pages self.now.root.0 (W.words w.old) g.0) since)) }
-        ensures leaf { ChangesLeaf self.now.pages self.now.root.0 (W.words w.old) (W.words w.new) g.0
-            (blocked (leaf_at self.now.pages self.now.root.0 (W.words w.old) g.0) since) }
-        ensures links { KeepsLinks self.now.pages self.now.root.0 (W.words w.old) (W.words w.new) }
+            (leaf_stores self.now.pages self.now.root.0 (leaves_of self.now.mode) (W.words w.old) g.0
+            (blocked (leaf_at self.now.pages self.now.root.0 (leaves_of self.now.mode) (W.words w.old) g.0) since)) }
+        ensures leaf { ChangesLeaf self.now.pages self.now.root.0 (leaves_of self.now.mode) (W.words w.old) (W.words w.new) g.0
+            (blocked (leaf_at self.now.pages self.now.root.0 (leaves_of self.now.mode) (W.words w.old) g.0) since) }
+        ensures links { KeepsLinks self.now.pages self.now.root.0 (leaves_of self.now.mode) (W.words w.old) (W.words w.new) }
         ensures guard { W.guard w.new ≡ W.guard w.old }
     {
         let leaf = self.leaf(w, g);
@@ -139,18 +118,18 @@ impl Tables {
 
     /// Makes a blocked leaf present again.
     pub fn unblock<W: Words>(&self, w: &mut W, g: Gpn)
-        requires guest { g.0 < 2 ^ 29 }
-        requires tree { IsTree self.now.pages self.now.root.0 (W.words w.old) }
-        requires blocked { IsBlockedLeaf (leaf_at self.now.pages self.now.root.0 (W.words w.old) g.0) }
+        requires guest { g.0 < guest_limit self.now.mode }
+        requires tree { IsTree self.now.pages self.now.root.0 (leaves_of self.now.mode) (W.words w.old) }
+        requires blocked { IsBlockedLeaf (leaf_at self.now.pages self.now.root.0 (leaves_of self.now.mode) (W.words w.old) g.0) }
         requires allowed { AllAllowed (W.allows (W.guard w.old)) (W.words w.old)
-            (leaf_stores self.now.pages self.now.root.0 (W.words w.old) g.0
-            (unblocked (leaf_at self.now.pages self.now.root.0 (W.words w.old) g.0))) }
+            (leaf_stores self.now.pages self.now.root.0 (leaves_of self.now.mode) (W.words w.old) g.0
+            (unblocked (leaf_at self.now.pages self.now.root.0 (leaves_of self.now.mode) (W.words w.old) g.0))) }
         ensures stores { W.words w.new ≡ stored (W.words w.old)
-            (leaf_stores self.now.pages self.now.root.0 (W.words w.old) g.0
-            (unblocked (leaf_at self.now.pages self.now.root.0 (W.words w.old) g.0))) }
-        ensures leaf { ChangesLeaf self.now.pages self.now.root.0 (W.words w.old) (W.words w.new) g.0
-            (unblocked (leaf_at self.now.pages self.now.root.0 (W.words w.old) g.0)) }
-        ensures links { KeepsLinks self.now.pages self.now.root.0 (W.words w.old) (W.words w.new) }
+            (leaf_stores self.now.pages self.now.root.0 (leaves_of self.now.mode) (W.words w.old) g.0
+            (unblocked (leaf_at self.now.pages self.now.root.0 (leaves_of self.now.mode) (W.words w.old) g.0))) }
+        ensures leaf { ChangesLeaf self.now.pages self.now.root.0 (leaves_of self.now.mode) (W.words w.old) (W.words w.new) g.0
+            (unblocked (leaf_at self.now.pages self.now.root.0 (leaves_of self.now.mode) (W.words w.old) g.0)) }
+        ensures links { KeepsLinks self.now.pages self.now.root.0 (leaves_of self.now.mode) (W.words w.old) (W.words w.new) }
         ensures guard { W.guard w.new ≡ W.guard w.old }
     {
         let leaf = self.leaf(w, g);
@@ -159,15 +138,15 @@ impl Tables {
 
     /// Removes a blocked leaf.
     pub fn unmap<W: Words>(&self, w: &mut W, g: Gpn)
-        requires guest { g.0 < 2 ^ 29 }
-        requires tree { IsTree self.now.pages self.now.root.0 (W.words w.old) }
-        requires blocked { IsBlockedLeaf (leaf_at self.now.pages self.now.root.0 (W.words w.old) g.0) }
+        requires guest { g.0 < guest_limit self.now.mode }
+        requires tree { IsTree self.now.pages self.now.root.0 (leaves_of self.now.mode) (W.words w.old) }
+        requires blocked { IsBlockedLeaf (leaf_at self.now.pages self.now.root.0 (leaves_of self.now.mode) (W.words w.old) g.0) }
         requires allowed { AllAllowed (W.allows (W.guard w.old)) (W.words w.old)
-            (leaf_stores self.now.pages self.now.root.0 (W.words w.old) g.0 0) }
+            (leaf_stores self.now.pages self.now.root.0 (leaves_of self.now.mode) (W.words w.old) g.0 0) }
         ensures stores { W.words w.new ≡ stored (W.words w.old)
-            (leaf_stores self.now.pages self.now.root.0 (W.words w.old) g.0 0) }
-        ensures leaf { ChangesLeaf self.now.pages self.now.root.0 (W.words w.old) (W.words w.new) g.0 0 }
-        ensures links { KeepsLinks self.now.pages self.now.root.0 (W.words w.old) (W.words w.new) }
+            (leaf_stores self.now.pages self.now.root.0 (leaves_of self.now.mode) (W.words w.old) g.0 0) }
+        ensures leaf { ChangesLeaf self.now.pages self.now.root.0 (leaves_of self.now.mode) (W.words w.old) (W.words w.new) g.0 0 }
+        ensures links { KeepsLinks self.now.pages self.now.root.0 (leaves_of self.now.mode) (W.words w.old) (W.words w.new) }
         ensures guard { W.guard w.new ≡ W.guard w.old }
     {
         self.set_leaf(w, g, 0);
@@ -185,46 +164,69 @@ impl Tables {
         clear_words(w, table_word(self.pages, page, 0), 512);
     }
 
-    // links the tables that the way to a guest page lacks, the upper one first, and gives the lower one
-    fn link_way<W: Words>(&self, w: &mut W, g: Gpn, pool: &mut Pool) -> Page
-        requires guest { g.0 < 2 ^ 29 }
-        requires tree { IsTree self.now.pages self.now.root.0 (W.words w.old) }
-        requires pool { IsPool self.now.pages self.now.root.0 (W.words w.old) pool.old.pages }
-        requires enough { tables_lacked self.now.pages self.now.root.0 (W.words w.old) g.0 1 ≤ length pool.old.pages }
-        requires allowed { AllAllowed (W.allows (W.guard w.old)) (W.words w.old) (way_stores self.now.pages self.now.root.0 (W.words w.old) pool.old.pages g.0) }
-        ensures stores { W.words w.new ≡ stored (W.words w.old) (way_stores self.now.pages self.now.root.0 (W.words w.old) pool.old.pages g.0) }
-        ensures tree { IsTree self.now.pages self.now.root.0 (W.words w.new) }
-        ensures leaves { KeepsLeaves self.now.pages self.now.root.0 (W.words w.old) (W.words w.new) }
-        ensures length { length (W.words w.new) ≡ length (W.words w.old) }
-        ensures way { NamesWay self.now.pages self.now.root.0 (W.words w.old) (W.words w.new) g.0 }
-        ensures table { entry_at self.now.pages self.now.root.0 (W.words w.new) (InMiddle (g.0 / 512)) ≡ next_table result.0 }
-        ensures pool { pool.new.pages ≡ pool_left self.now.pages self.now.root.0 (W.words w.old) pool.old.pages g.0 }
+    // links the tables that the way to a guest page lacks, the upper ones first, and says where its leaf stands then
+    fn link_way<W: Words>(&self, w: &mut W, g: Gpn, pool: &mut Pool) -> u32
+        requires { MayLinkWay self.now.pages self.now.root.0 (leaves_of self.now.mode) (W.allows (W.guard w.old)) (W.words w.old) pool.old.pages (leaves_of self.now.mode) g.0 }
+        ensures linked { LinkedWay self.now.pages self.now.root.0 (leaves_of self.now.mode) (W.words w.old) pool.old.pages (W.words w.new) pool.new.pages (leaves_of self.now.mode) g.0 result }
         ensures room { pool.new.room ≡ pool.old.room }
-        ensures spare { IsPool self.now.pages self.now.root.0 (W.words w.new) pool.new.pages }
         ensures guard { W.guard w.new ≡ W.guard w.old }
     {
-        let n = (g.0 / 512) as u32;
-        let upper = self.root_word(n / 512);
-        let table = self.linked(w, Level::Root, n / 512, upper, pool);
-        let lower = table_word(self.pages, table, n % 512);
-        self.linked(w, Level::Middle, n, lower, pool)
+        match self.mode {
+            Mode::Sv39x4 => self.link_2(w, g.0, pool),
+            Mode::Sv48x4 => self.link_3(w, g.0, pool),
+        }
+    }
+
+    // links the table that the way to a slot below the root's lacks, and says where the slot stands then
+    fn link_1<W: Words>(&self, w: &mut W, n: u64, pool: &mut Pool) -> u32
+        requires { MayLinkWay self.now.pages self.now.root.0 (leaves_of self.now.mode) (W.allows (W.guard w.old)) (W.words w.old) pool.old.pages 1 n }
+        ensures linked { LinkedWay self.now.pages self.now.root.0 (leaves_of self.now.mode) (W.words w.old) pool.old.pages (W.words w.new) pool.new.pages 1 n result }
+        ensures room { pool.new.room ≡ pool.old.room }
+        ensures guard { W.guard w.new ≡ W.guard w.old }
+    {
+        let above = self.root_word((n / 512) as u32);
+        let table = self.linked(w, 0, n / 512, above, pool);
+        table_word(self.pages, table, (n % 512) as u32)
+    }
+
+    // the same of a slot two tables below the root, the upper table first
+    fn link_2<W: Words>(&self, w: &mut W, n: u64, pool: &mut Pool) -> u32
+        requires { MayLinkWay self.now.pages self.now.root.0 (leaves_of self.now.mode) (W.allows (W.guard w.old)) (W.words w.old) pool.old.pages 2 n }
+        ensures linked { LinkedWay self.now.pages self.now.root.0 (leaves_of self.now.mode) (W.words w.old) pool.old.pages (W.words w.new) pool.new.pages 2 n result }
+        ensures room { pool.new.room ≡ pool.old.room }
+        ensures guard { W.guard w.new ≡ W.guard w.old }
+    {
+        let above = self.link_1(w, n / 512, pool);
+        let table = self.linked(w, 1, n / 512, above, pool);
+        table_word(self.pages, table, (n % 512) as u32)
+    }
+
+    // the same of a slot three tables below the root
+    fn link_3<W: Words>(&self, w: &mut W, n: u64, pool: &mut Pool) -> u32
+        requires { MayLinkWay self.now.pages self.now.root.0 (leaves_of self.now.mode) (W.allows (W.guard w.old)) (W.words w.old) pool.old.pages 3 n }
+        ensures linked { LinkedWay self.now.pages self.now.root.0 (leaves_of self.now.mode) (W.words w.old) pool.old.pages (W.words w.new) pool.new.pages 3 n result }
+        ensures room { pool.new.room ≡ pool.old.room }
+        ensures guard { W.guard w.new ≡ W.guard w.old }
+    {
+        let above = self.link_2(w, n / 512, pool);
+        let table = self.linked(w, 2, n / 512, above, pool);
+        table_word(self.pages, table, (n % 512) as u32)
     }
 
     // the table that a slot names, linked out of the pool where it names none
-    fn linked<W: Words>(&self, w: &mut W, level: Level, n: u32, place: u32, pool: &mut Pool) -> Page
-        requires slot { IsLinkSlot (slot_of_level level n) }
-        requires tree { IsTree self.now.pages self.now.root.0 (W.words w.old) }
+    fn linked<W: Words>(&self, w: &mut W, depth: u32, n: u64, place: u32, pool: &mut Pool) -> Page
+        requires slot { IsLinkSlot (leaves_of self.now.mode) (At depth n) }
+        requires tree { IsTree self.now.pages self.now.root.0 (leaves_of self.now.mode) (W.words w.old) }
         requires pool { IsPool self.now.pages self.now.root.0 (W.words w.old) pool.old.pages }
-        requires place { StandsAt self.now.pages self.now.root.0 (W.words w.old) (slot_of_level level n) place }
-        requires enough { entry_at self.now.pages self.now.root.0 (W.words w.old) (slot_of_level level n) ≡ 0 → 0 < length pool.old.pages }
+        requires place { StandsAt self.now.pages self.now.root.0 (W.words w.old) (At depth n) place }
+        requires enough { entry_in self.now.pages self.now.root.0 (W.words w.old) depth n ≡ 0 → 0 < length pool.old.pages }
         requires allowed { AllAllowed (W.allows (W.guard w.old)) (W.words w.old)
-            (link_stores (entry_at self.now.pages self.now.root.0 (W.words w.old) (slot_of_level level n)) place pool.old.pages) }
+            (link_stores (entry_in self.now.pages self.now.root.0 (W.words w.old) depth n) place pool.old.pages) }
         ensures stores { W.words w.new ≡ stored (W.words w.old)
-            (link_stores (entry_at self.now.pages self.now.root.0 (W.words w.old) (slot_of_level level n)) place pool.old.pages) }
-        ensures table { LinksTable self.now.pages self.now.root.0 (W.words w.old) (W.words w.new) (slot_of_level level n) result.0 }
+            (link_stores (entry_in self.now.pages self.now.root.0 (W.words w.old) depth n) place pool.old.pages) }
+        ensures table { LinksTable self.now.pages self.now.root.0 (leaves_of self.now.mode) (W.words w.old) (W.words w.new) (At depth n) result.0 }
         ensures board { result.0 < self.now.pages }
-        ensures pool { pool.new.pages
-            ≡ pool_after (entry_at self.now.pages self.now.root.0 (W.words w.old) (slot_of_level level n)) pool.old.pages }
+        ensures pool { pool.new.pages ≡ pool_after (entry_in self.now.pages self.now.root.0 (W.words w.old) depth n) pool.old.pages }
         ensures room { pool.new.room ≡ pool.old.room }
         ensures spare { IsPool self.now.pages self.now.root.0 (W.words w.new) pool.new.pages }
         ensures guard { W.guard w.new ≡ W.guard w.old }
@@ -239,82 +241,207 @@ impl Tables {
         }
     }
 
-    // stores a leaf where the way to its guest page is linked
+    // stores a leaf where there was one
     fn set_leaf<W: Words>(&self, w: &mut W, g: Gpn, leaf: u64)
-        requires guest { g.0 < 2 ^ 29 }
+        requires guest { g.0 < guest_limit self.now.mode }
         requires leaf { IsLeaf leaf }
-        requires tree { IsTree self.now.pages self.now.root.0 (W.words w.old) }
-        requires linked { entry_at self.now.pages self.now.root.0 (W.words w.old) (InMiddle (g.0 / 512)) ≢ 0 }
+        requires tree { IsTree self.now.pages self.now.root.0 (leaves_of self.now.mode) (W.words w.old) }
+        requires mapped { leaf_at self.now.pages self.now.root.0 (leaves_of self.now.mode) (W.words w.old) g.0 ≢ 0 }
         requires allowed { AllAllowed (W.allows (W.guard w.old)) (W.words w.old)
-            (leaf_stores self.now.pages self.now.root.0 (W.words w.old) g.0 leaf) }
+            (leaf_stores self.now.pages self.now.root.0 (leaves_of self.now.mode) (W.words w.old) g.0 leaf) }
         ensures stores { W.words w.new ≡ stored (W.words w.old)
-            (leaf_stores self.now.pages self.now.root.0 (W.words w.old) g.0 leaf) }
-        ensures leaf { ChangesLeaf self.now.pages self.now.root.0 (W.words w.old) (W.words w.new) g.0 leaf }
-        ensures links { KeepsLinks self.now.pages self.now.root.0 (W.words w.old) (W.words w.new) }
+            (leaf_stores self.now.pages self.now.root.0 (leaves_of self.now.mode) (W.words w.old) g.0 leaf) }
+        ensures leaf { ChangesLeaf self.now.pages self.now.root.0 (leaves_of self.now.mode) (W.words w.old) (W.words w.new) g.0 leaf }
+        ensures links { KeepsLinks self.now.pages self.now.root.0 (leaves_of self.now.mode) (W.words w.old) (W.words w.new) }
         ensures guard { W.guard w.new ≡ W.guard w.old }
     {
-        let table = self.entry(w, Level::Middle, (g.0 / 512) as u32);
-        self.set_below(w, g, Page((table / 1024) as u32), leaf);
+        let place = self.leaf_place(w, g);
+        self.set_at(w, g, place, leaf);
     }
 
-    // stores a leaf in the last table on the way to its guest page
-    fn set_below<W: Words>(&self, w: &mut W, g: Gpn, table: Page, leaf: u64)
-        requires guest { g.0 < 2 ^ 29 }
+    // where the leaf of a mapped guest page stands
+    fn leaf_place<W: Words>(&self, w: &mut W, g: Gpn) -> u32
+        requires guest { g.0 < guest_limit self.now.mode }
+        requires tree { IsTree self.now.pages self.now.root.0 (leaves_of self.now.mode) (W.words w.old) }
+        requires mapped { leaf_at self.now.pages self.now.root.0 (leaves_of self.now.mode) (W.words w.old) g.0 ≢ 0 }
+        ensures place { StandsAt self.now.pages self.now.root.0 (W.words w.old) (At (leaves_of self.now.mode) g.0) result }
+        ensures unchanged { Unchanged W.words W.clean W.guard w.old w.new }
+    {
+        let table = self.entry(w, self.mode.leaves() - 1, g.0 / 512);
+        table_word(self.pages, Page((table / 1024) as u32), (g.0 % 512) as u32)
+    }
+
+    // stores a leaf where it stands
+    fn set_at<W: Words>(&self, w: &mut W, g: Gpn, place: u32, leaf: u64)
+        requires guest { g.0 < guest_limit self.now.mode }
         requires leaf { IsLeaf leaf }
-        requires tree { IsTree self.now.pages self.now.root.0 (W.words w.old) }
-        requires table { entry_at self.now.pages self.now.root.0 (W.words w.old) (InMiddle (g.0 / 512)) ≡ next_table table.0 }
+        requires tree { IsTree self.now.pages self.now.root.0 (leaves_of self.now.mode) (W.words w.old) }
+        requires place { StandsAt self.now.pages self.now.root.0 (W.words w.old) (At (leaves_of self.now.mode) g.0) place }
         requires allowed { AllAllowed (W.allows (W.guard w.old)) (W.words w.old)
-            (leaf_stores self.now.pages self.now.root.0 (W.words w.old) g.0 leaf) }
+            (leaf_stores self.now.pages self.now.root.0 (leaves_of self.now.mode) (W.words w.old) g.0 leaf) }
         ensures stores { W.words w.new ≡ stored (W.words w.old)
-            (leaf_stores self.now.pages self.now.root.0 (W.words w.old) g.0 leaf) }
-        ensures leaf { ChangesLeaf self.now.pages self.now.root.0 (W.words w.old) (W.words w.new) g.0 leaf }
-        ensures links { KeepsLinks self.now.pages self.now.root.0 (W.words w.old) (W.words w.new) }
+            (leaf_stores self.now.pages self.now.root.0 (leaves_of self.now.mode) (W.words w.old) g.0 leaf) }
+        ensures leaf { ChangesLeaf self.now.pages self.now.root.0 (leaves_of self.now.mode) (W.words w.old) (W.words w.new) g.0 leaf }
+        ensures links { KeepsLinks self.now.pages self.now.root.0 (leaves_of self.now.mode) (W.words w.old) (W.words w.new) }
         ensures guard { W.guard w.new ≡ W.guard w.old }
     {
-        w.set(table_word(self.pages, table, (g.0 % 512) as u32), leaf);
+        w.set(place, leaf);
     }
 
     // the word of a guest page's leaf
     fn leaf<W: Words>(&self, w: &mut W, g: Gpn) -> u64
-        requires guest { g.0 < 2 ^ 29 }
-        requires tree { IsTree self.now.pages self.now.root.0 (W.words w.old) }
-        ensures leaf { result ≡ leaf_at self.now.pages self.now.root.0 (W.words w.old) g.0 }
+        requires guest { g.0 < guest_limit self.now.mode }
+        requires tree { IsTree self.now.pages self.now.root.0 (leaves_of self.now.mode) (W.words w.old) }
+        ensures leaf { result ≡ leaf_at self.now.pages self.now.root.0 (leaves_of self.now.mode) (W.words w.old) g.0 }
         ensures within { IsLeaf result }
         ensures unchanged { Unchanged W.words W.clean W.guard w.old w.new }
     {
-        let table = self.entry(w, Level::Middle, (g.0 / 512) as u32);
-        self.below(w, table, (g.0 % 512) as u32)
+        self.entry(w, self.mode.leaves(), g.0)
     }
 
-    // how many of the k slots of a level from n on have no entry
-    fn absent<W: Words>(&self, w: &mut W, level: Level, n: u32, k: u32) -> u32
-        requires slots { (i : ℕ) → i < k → IsLinkSlot (slot_of_level level (n + i)) }
-        requires tree { IsTree self.now.pages self.now.root.0 (W.words w.old) }
-        ensures absent { result ≡ absent_among self.now.pages self.now.root.0 (W.words w.old) level n k }
+    // how many tables are missing for mappings of the k slots at a depth from the n-th on
+    fn lacked<W: Words>(&self, w: &mut W, depth: u32, n: u64, k: u32) -> u32
+        requires depth { depth ≤ leaves_of self.now.mode }
+        requires slots { n + k ≤ slots_at depth }
+        requires tree { IsTree self.now.pages self.now.root.0 (leaves_of self.now.mode) (W.words w.old) }
+        ensures lacked { result ≡ tables_lacked self.now.pages self.now.root.0 (W.words w.old) depth n k }
+        ensures most { result ≤ k + 2 * depth }
+        ensures unchanged { Unchanged W.words W.clean W.guard w.old w.new }
+    {
+        if depth == 0 {
+            return 0;
+        }
+        if k == 0 {
+            return 0;
+        }
+        let first = n / 512;
+        let blocks = ((n + u64::from(k - 1)) / 512 + 1 - first) as u32;
+        self.absent(w, depth - 1, first, blocks) + self.lacked(w, depth - 1, first, blocks)
+    }
+
+    // how many of the k slots at a depth from the n-th on have no entry
+    fn absent<W: Words>(&self, w: &mut W, depth: u32, n: u64, k: u32) -> u32
+        requires depth { depth ≤ leaves_of self.now.mode }
+        requires slots { n + k ≤ slots_at depth }
+        requires tree { IsTree self.now.pages self.now.root.0 (leaves_of self.now.mode) (W.words w.old) }
+        ensures absent { result ≡ absent_among self.now.pages self.now.root.0 (W.words w.old) depth n k }
         ensures most { result ≤ k }
         ensures unchanged { Unchanged W.words W.clean W.guard w.old w.new }
     {
         let mut absent = 0;
         for i in 0..k {
-            absent += flag(self.entry(w, level, n + i) == 0);
+            absent += flag(self.entry(w, depth, n + u64::from(i)) == 0);
         }
         absent
     }
 
     // the entry of a slot
-    fn entry<W: Words>(&self, w: &mut W, level: Level, n: u32) -> u64
-        requires slot { IsLinkSlot (slot_of_level level n) }
-        requires tree { IsTree self.now.pages self.now.root.0 (W.words w.old) }
-        ensures entry { result ≡ entry_at self.now.pages self.now.root.0 (W.words w.old) (slot_of_level level n) }
+    fn entry<W: Words>(&self, w: &mut W, depth: u32, n: u64) -> u64
+        requires depth { depth ≤ leaves_of self.now.mode }
+        requires slot { n < slots_at depth }
+        requires tree { IsTree self.now.pages self.now.root.0 (leaves_of self.now.mode) (W.words w.old) }
+        ensures entry { result ≡ entry_in self.now.pages self.now.root.0 (W.words w.old) depth n }
         ensures unchanged { Unchanged W.words W.clean W.guard w.old w.new }
     {
-        match level {
-            Level::Root => w.get(self.root_word(n)),
-            Level::Middle => {
-                let table = w.get(self.root_word(n / 512));
-                self.below(w, table, n % 512)
-            }
+        match depth {
+            0 => w.get(self.root_word(n as u32)),
+            1 => self.entry_1(w, n),
+            2 => self.entry_2(w, n),
+            _ => self.entry_3(w, n),
         }
+    }
+
+    // the entry of a slot below the root's
+    fn entry_1<W: Words>(&self, w: &mut W, n: u64) -> u64
+        requires depth { 1 ≤ leaves_of self.now.mode }
+        requires slot { n < slots_at 1 }
+        requires tree { IsTree self.now.pages self.now.root.0 (leaves_of self.now.mode) (W.words w.old) }
+        ensures entry { result ≡ entry_in self.now.pages self.now.root.0 (W.words w.old) 1 n }
+        ensures unchanged { Unchanged W.words W.clean W.guard w.old w.new }
+    {
+        let table = w.get(self.root_word((n / 512) as u32));
+        self.below(w, table, (n % 512) as u32)
+    }
+
+    // the entry of a slot two tables below the root
+    fn entry_2<W: Words>(&self, w: &mut W, n: u64) -> u64
+        requires depth { 2 ≤ leaves_of self.now.mode }
+        requires slot { n < slots_at 2 }
+        requires tree { IsTree self.now.pages self.now.root.0 (leaves_of self.now.mode) (W.words w.old) }
+        ensures entry { result ≡ entry_in self.now.pages self.now.root.0 (W.words w.old) 2 n }
+        ensures unchanged { Unchanged W.words W.clean W.guard w.old w.new }
+    {
+        let table = self.entry_1(w, n / 512);
+        self.below(w, table, (n % 512) as u32)
+    }
+
+    // the entry of a slot three tables below the root
+    fn entry_3<W: Words>(&self, w: &mut W, n: u64) -> u64
+        requires depth { 3 ≤ leaves_of self.now.mode }
+        requires slot { n < slots_at 3 }
+        requires tree { IsTree self.now.pages self.now.root.0 (leaves_of self.now.mode) (W.words w.old) }
+        ensures entry { result ≡ entry_in self.now.pages self.now.root.0 (W.words w.old) 3 n }
+        ensures unchanged { Unchanged W.words W.clean W.guard w.old w.new }
+    {
+        let table = self.entry_2(w, n / 512);
+        self.below(w, table, (n % 512) as u32)
+    }
+
+    // the word of a guest page's leaf, by counted loads
+    fn load<W: Words, L: Ledger>(&self, w: &mut W, g: Gpn, steps: &mut Steps<L>) -> u64
+        requires guest { g.0 < guest_limit self.now.mode }
+        requires tree { IsTree self.now.pages self.now.root.0 (leaves_of self.now.mode) (W.words w.old) }
+        ensures leaf { result ≡ leaf_at self.now.pages self.now.root.0 (leaves_of self.now.mode) (W.words w.old) g.0 }
+        ensures steps { steps.new ≤ steps.old + 1 + leaves_of self.now.mode }
+        ensures unchanged { Unchanged W.words W.clean W.guard w.old w.new }
+    {
+        match self.mode {
+            Mode::Sv39x4 => self.load_2(w, g.0, steps),
+            Mode::Sv48x4 => self.load_3(w, g.0, steps),
+        }
+    }
+
+    // the entry of a slot below the root's, by counted loads
+    fn load_1<W: Words, L: Ledger>(&self, w: &mut W, n: u64, steps: &mut Steps<L>) -> u64
+        requires depth { 1 ≤ leaves_of self.now.mode }
+        requires slot { n < slots_at 1 }
+        requires tree { IsTree self.now.pages self.now.root.0 (leaves_of self.now.mode) (W.words w.old) }
+        ensures entry { result ≡ entry_in self.now.pages self.now.root.0 (W.words w.old) 1 n }
+        ensures steps { steps.new ≤ steps.old + 2 }
+        ensures unchanged { Unchanged W.words W.clean W.guard w.old w.new }
+    {
+        steps.tick();
+        let table = w.get(self.root_word((n / 512) as u32));
+        steps.tick();
+        self.below(w, table, (n % 512) as u32)
+    }
+
+    // the same two tables below the root
+    fn load_2<W: Words, L: Ledger>(&self, w: &mut W, n: u64, steps: &mut Steps<L>) -> u64
+        requires depth { 2 ≤ leaves_of self.now.mode }
+        requires slot { n < slots_at 2 }
+        requires tree { IsTree self.now.pages self.now.root.0 (leaves_of self.now.mode) (W.words w.old) }
+        ensures entry { result ≡ entry_in self.now.pages self.now.root.0 (W.words w.old) 2 n }
+        ensures steps { steps.new ≤ steps.old + 3 }
+        ensures unchanged { Unchanged W.words W.clean W.guard w.old w.new }
+    {
+        let table = self.load_1(w, n / 512, steps);
+        steps.tick();
+        self.below(w, table, (n % 512) as u32)
+    }
+
+    // the same three tables below the root
+    fn load_3<W: Words, L: Ledger>(&self, w: &mut W, n: u64, steps: &mut Steps<L>) -> u64
+        requires depth { 3 ≤ leaves_of self.now.mode }
+        requires slot { n < slots_at 3 }
+        requires tree { IsTree self.now.pages self.now.root.0 (leaves_of self.now.mode) (W.words w.old) }
+        ensures entry { result ≡ entry_in self.now.pages self.now.root.0 (W.words w.old) 3 n }
+        ensures steps { steps.new ≤ steps.old + 4 }
+        ensures unchanged { Unchanged W.words W.clean W.guard w.old w.new }
+    {
+        let table = self.load_2(w, n / 512, steps);
+        steps.tick();
+        self.below(w, table, (n % 512) as u32)
     }
 
     // the entry at i of the table that an entry names, or 0

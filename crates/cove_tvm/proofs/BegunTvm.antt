@@ -4,8 +4,11 @@ use Rattle.std.proofs.lemmas.Bool.{false≢true}
 use Rattle.std.proofs.lemmas.Nat.Bits.{bit_at-zero}
 use Rattle.std.specs.Int.{bit_at}
 use Rattle.cove_base.proofs.TreeLemmas.{link-slot}
-use Rattle.cove_model.specs.Machine.{given, table_word, Role, Root, Table, Vcpu, Data, Seat, created, number_in}
-use Rattle.cove_base.specs.Tables.{Slot, InRoot, InMiddle, InLast, IsLinkSlot, IsSlot, entry_at, next_table}
+use Rattle.cove_model.specs.Machine.{given, table_word, Role, Root, Table, Vcpu, Data, Seat, created, number_in, over_levels}
+use Rattle.cove_base.specs.Modes.{leaves_of}
+use Rattle.cove_base.specs.Tables.{Slot, At, IsSlot, entry_at, next_table}
+use Rattle.cove_base.specs.declared.modes.Mode.{Mode}
+use Rattle.cove_base.specs.declared.modes.Mode.TheVariants.{Sv39x4, Sv48x4}
 use Rattle.cove_base.specs.declared.numbers.Role.TheVariants.{State}
 use Rattle.cove_imsic.specs.FileTables.{FileTable}
 use Rattle.cove_model.proofs.ToldProofs.{filter_none}
@@ -40,7 +43,12 @@ pub record HasBegun (pages harts : ℕ) (new : List ℕ) (t root state : ℕ) : 
   pub zeros : (p i : ℕ) → root ≤ p → p < root + 4 → i < 512 → get_or new (table_word pages p i) 0 ≡ 0
   pub nobody : (number hart : ℕ) → hart < harts → is_entered_below pages harts new t number hart ≡ false
 
-module _ (pages harts : ℕ) (new : List ℕ) (t root state : ℕ) (begun : HasBegun pages harts new t root state) (size : ℕ) where
+-- a TVM that uses no table
+none_used : (mode : Mode) → 0 ≡ over_levels (λ level. 0) (leaves_of mode) + 0
+none_used Sv39x4 = refl
+none_used Sv48x4 = refl
+
+module _ (pages harts : ℕ) (new : List ℕ) (t root state : ℕ) (begun : HasBegun pages harts new t root state) (size : ℕ) (mode : Mode) where
   root_zeros : (n : ℕ) → n < 2048 → get_or new (table_word pages root n) 0 ≡ 0
   root_zeros n low =
       let place : table_word pages root n ≡ table_word pages (root + n / 512) (n % 512) = omega arith in
@@ -49,13 +57,13 @@ module _ (pages harts : ℕ) (new : List ℕ) (t root state : ℕ) (begun : HasB
   entry_zero : (a : Slot) → IsSlot a → entry_at pages root new a ≡ 0
   entry_zero a slot = empty-entries pages root new root_zeros a slot
 
-  not_named : (a : Slot) (page : ℕ) → IsLinkSlot a → entry_at pages root new a ≡ next_table page → ⊥
+  not_named : (a : Slot) (page : ℕ) → IsSlot a → entry_at pages root new a ≡ next_table page → ⊥
   not_named a page slot named =
-      let none : 0 ≡ 1024 * page + 1 = sym (entry_zero a (link-slot a slot)) ∙ named in omega arith
+      let none : 0 ≡ 1024 * page + 1 = sym (entry_zero a slot) ∙ named in omega arith
 
-  begun_tables : AreTables pages harts new t root []
+  begun_tables : AreTables pages harts new t root (leaves_of mode) []
   begun_tables = record {
-    tree = empty-tree pages root new begun.fits begun.size root_zeros;
+    tree = empty-tree pages root (leaves_of mode) new begun.fits begun.size root_zeros;
     spare = record { each = λ k low. absurd (omega arith); differ = λ j k low lower same. absurd (omega arith) };
     given = record {
       root_is = record {
@@ -68,20 +76,18 @@ module _ (pages harts : ℕ) (new : List ℕ) (t root state : ℕ) (begun : HasB
     };
   }
 
-  not_used : (a : Slot) → IsLinkSlot a → uses_slot (created t size) a ≡ false
-  not_used (InRoot n) slot = refl
-  not_used (InMiddle n) slot = refl
-  not_used (InLast g) slot = absurd slot
+  not_used : (a : Slot) → uses_slot (leaves_of mode) (created t mode size) a ≡ false
+  not_used (At d n) = refl
 
-  begun_mappings : AreMappings pages harts new t root [] (created t size)
+  begun_mappings : AreMappings pages harts new t root (leaves_of mode) [] (created t mode size)
   begun_mappings = record {
-    leaf = λ g low. entry_zero (InLast g) low;
+    leaf = λ g low. entry_zero (At (leaves_of mode) g) low;
     far = λ g high. refl;
-    links = λ a slot. not_used a slot ∙ ap (λ entry. not (eqb entry 0)) (sym (entry_zero a (link-slot a slot)));
-    count = refl;
+    links = λ a slot. not_used a ∙ ap (λ entry. not (eqb entry 0)) (sym (entry_zero a (link-slot (leaves_of mode) a slot)));
+    count = none_used mode;
   }
 
-  module _ (seats : ℕ → Option Seat) (files : FileTable) (tvm : Tvm) (fresh : IsNewTvm pages size root state tvm) where
+  module _ (seats : ℕ → Option Seat) (files : FileTable) (tvm : Tvm) (fresh : IsNewTvm pages size root mode state tvm) where
     begun_slot : (v : ℕ) → slot_at tvm v ≡ None
     begun_slot zero = fresh.no_v0
     begun_slot (suc zero) = fresh.no_v1
@@ -103,10 +109,10 @@ module _ (pages harts : ℕ) (new : List ℕ) (t root state : ℕ) (begun : HasB
       found = λ p role on is. begun_found p role (begun.only p role on is);
     }
 
-    begun_fields : AreFields pages harts new t seats files tvm (created t size)
+    begun_fields : AreFields pages harts new t seats files tvm (created t mode size)
     begun_fields = record {
       life = ap is_runnable fresh.life;
-      regions = subst (λ guests. StandFor guests (created t size)) (sym fresh.regions) none_stand;
+      regions = subst (λ guests. StandFor guests (created t mode size)) (sym fresh.regions) none_stand;
       near = λ g covered. absurd (outside g (subst (λ guests. IsTrue (covers guests.regions g)) fresh.regions covered));
       registers = fresh.registers;
       allowed = λ id. ap (λ m. eqb (bit_at m id) 1) fresh.allowed ∙ ap (λ b. eqb b 1) (bit_at-zero id);
@@ -117,7 +123,7 @@ module _ (pages harts : ℕ) (new : List ℕ) (t root state : ℕ) (begun : HasB
       outside : (g : ℕ) → IsTrue false → ⊥
       outside g no_region = false≢true no_region
 
-      none_stand : StandFor (record { regions = []; rows = [] }) (created t size)
+      none_stand : StandFor (record { regions = []; rows = [] }) (created t mode size)
       none_stand = record {
         regions = refl;
         some = λ k d low. absurd (omega arith);
@@ -127,13 +133,17 @@ module _ (pages harts : ℕ) (new : List ℕ) (t root state : ℕ) (begun : HasB
       }
 
     -- a new TVM stands for one of the definitions
-    pub begun_lives : LiveStands pages harts new t seats files tvm (created t size)
+    pub begun_lives : LiveStands pages harts new t seats files tvm (created t mode size)
     begun_lives = record {
       board = fresh.board;
+      mode = fresh.mode_is;
       room = fresh.room;
-      tables = subst (λ r. AreTables pages harts new t r tvm.pool.pages) (sym fresh.root_is) (subst (AreTables pages harts new t root) (sym fresh.pool) begun_tables);
+      tables = subst (λ m. AreTables pages harts new t tvm.tables.root.0 (leaves_of m) tvm.pool.pages) (sym fresh.mode_is)
+          (subst (λ r. AreTables pages harts new t r (leaves_of mode) tvm.pool.pages) (sym fresh.root_is)
+          (subst (AreTables pages harts new t root (leaves_of mode)) (sym fresh.pool) begun_tables));
       owned = begun_pages;
-      mappings = subst (λ r. AreMappings pages harts new t r tvm.pool.pages (created t size)) (sym fresh.root_is)
-          (subst (λ pool. AreMappings pages harts new t root pool (created t size)) (sym fresh.pool) begun_mappings);
+      mappings = subst (λ m. AreMappings pages harts new t tvm.tables.root.0 (leaves_of m) tvm.pool.pages (created t mode size)) (sym fresh.mode_is)
+          (subst (λ r. AreMappings pages harts new t r (leaves_of mode) tvm.pool.pages (created t mode size)) (sym fresh.root_is)
+          (subst (λ pool. AreMappings pages harts new t root (leaves_of mode) pool (created t mode size)) (sym fresh.pool) begun_mappings));
       fields = begun_fields;
     }

@@ -39,6 +39,7 @@ region_stands k words G S hart gpa len tvm model guests stands live found region
     (record { number = λ v. refl; mappings = λ v. refl }) live found (live_stays G.tvms k tvm live)
     (record {
       board = old.board;
+      mode = old.mode;
       room = old.room;
       tables = old.tables;
       owned = record { state_fits = old.owned.state_fits; state_is = old.owned.state_is; found = old.owned.found };

@@ -1,11 +1,13 @@
 -- Words and ground stand after a TVM was created, and the stores are lawful.
-use Rattle.std.proofs.Common.{◌≡◌, ◌≢◌, ℕ, suc, ◌+◌, ◌/◌, ◌%◌, ◌^◌, ◌<◌, ◌≤◌, ◌==◌, ◌⊎◌, ◌∙◌, Bool, true, false, cond, eqb, eqb-true, ltb, List, [], ◌∷◌, ◌++◌, count_by, get_or, length, length-append, Option, Some, None, refl, sym, ap, subst, inl, inr, arith}
+use Rattle.std.proofs.Common.{◌≡◌, ◌≢◌, ℕ, suc, ◌+◌, ◌/◌, ◌%◌, ◌^◌, ◌<◌, ◌≤◌, ◌==◌, ◌⊎◌, ◌∙◌, Bool, true, false, cond, eqb, ltb, List, [], ◌∷◌, ◌++◌, count_by, get_or, length, length-append, Option, Some, None, refl, sym, ap, subst, inl, inr, arith}
 use Rattle.std.proofs.lemmas.Bool.{eq-eqb, ne_eqb}
 use Rattle.std.proofs.lemmas.List.{append-nil}
 use Rattle.std.proofs.lemmas.List.Concat.{flat_map-append}
 use Rattle.std.proofs.lemmas.Option.{none-some}
 use Rattle.std.specs.Prelude.{filter_map, option_and_then, unwrap_or}
 use Rattle.cove_base.proofs.StoreLemmas.{get_or-fills, get_or-fills_other, length-stored, stored-append}
+use Rattle.cove_base.specs.Modes.{mode_of}
+use Rattle.cove_base.specs.declared.modes.Mode.{Mode}
 use Rattle.cove_model.specs.Machine.{given, all_words, hart_word, table_word, fills, stored, Create, ENTRY_LIMIT, TVM_LIMIT, Role, Root, Table, Vcpu, Data, effect, at, mapping_of, own_words, IsOrderly, AsRoot, AsState, Converting, Free, Given, Host, Owner, Purpose, change, is_free, page_at, given_to, IsSeated, FencesWithin, FrameStands, FramesStand, PageStands, answered_in, epoch_in, is_table, maps_of, words_at}
 use Rattle.cove_base.specs.declared.numbers.Role.TheVariants.{State}
 use Rattle.cove_model.proofs.LeafWords.{given_number, given_role}
@@ -49,23 +51,23 @@ found_last (y ∷ xs) x none = go (eqb y.number x.number) refl none (found_last 
     go false e found rest = ap (λ b. cond b (Some y) (at (λ tvm. tvm.number) x.number (xs ++ x ∷ []))) e ∙ rest found
 
 -- a new TVM maps no page
-pub maps_grown : (S : MonitorState) (t size p : ℕ) → maps_of (record S { tvms = S.tvms ++ created t size ∷ [] }) p ≡ maps_of S p
-maps_grown S t size p =
+pub maps_grown : (S : MonitorState) (t : ℕ) (mode : Mode) (size p : ℕ) → maps_of (record S { tvms = S.tvms ++ created t mode size ∷ [] }) p ≡ maps_of S p
+maps_grown S t mode size p =
     ap (count_by (λ q. q == p))
-    (flat_map-append (λ tvm. filter_map (λ mapping. shown_page mapping.backing) tvm.mappings) S.tvms (created t size ∷ [])
+    (flat_map-append (λ tvm. filter_map (λ mapping. shown_page mapping.backing) tvm.mappings) S.tvms (created t mode size ∷ [])
     ∙ append-nil (shared_pages S))
 
 -- the words of a guest page, by the TVM that is found
 abbrev words_by : (u g : ℕ) → Option ModelTvm → Option (List ℕ)
 words_by u g found = option_and_then (λ mapping. own_words mapping.backing) (mapping_of (unwrap_or found (new_tvm u)) g)
 
-pub words_grown : (S : MonitorState) (t size u g : ℕ) (frame : List ℕ) → words_at S u g ≡ Some frame → words_at (record S { tvms = S.tvms ++ created t size ∷ [] }) u g ≡ Some frame
-words_grown S t size u g frame is = go (find_tvm S u) refl
+pub words_grown : (S : MonitorState) (t : ℕ) (mode : Mode) (size u g : ℕ) (frame : List ℕ) → words_at S u g ≡ Some frame → words_at (record S { tvms = S.tvms ++ created t mode size ∷ [] }) u g ≡ Some frame
+words_grown S t mode size u g frame is = go (find_tvm S u) refl
   where
-    go : (v : Option ModelTvm) → find_tvm S u ≡ v → words_at (record S { tvms = S.tvms ++ created t size ∷ [] }) u g ≡ Some frame
+    go : (v : Option ModelTvm) → find_tvm S u ≡ v → words_at (record S { tvms = S.tvms ++ created t mode size ∷ [] }) u g ≡ Some frame
     go None none = absurd (none-some frame (sym (ap (words_by u g) none) ∙ is))
     go (Some v) some =
-        ap (words_by u g) (at_append (λ tvm. tvm.number) u S.tvms (created t size ∷ []) v some) ∙ sym (ap (words_by u g) some) ∙ is
+        ap (words_by u g) (at_append (λ tvm. tvm.number) u S.tvms (created t mode size ∷ []) v some) ∙ sym (ap (words_by u g) some) ∙ is
 
 -- ---- frames
 
@@ -118,7 +120,7 @@ module _ (words : List ℕ) (ground : Ground) (S : MonitorState) (root state : �
   new_words = stored (stored words (fills (root / 4096) 4 (given (S.made + 1) Root))) (fills (state / 4096) 1 (given (S.made + 1) State))
 
   abbrev grown : MonitorState
-  grown = record S { tvms = S.tvms ++ created (S.made + 1) (board_in S) ∷ []; made = S.made + 1 }
+  grown = record S { tvms = S.tvms ++ created (S.made + 1) (mode_of root) (board_in S) ∷ []; made = S.made + 1 }
 
   abbrev rooted_state : MonitorState
   rooted_state = record grown { pages = change (given_to (S.made + 1) AsRoot) (root / 4096) 4 S.pages }
@@ -151,7 +153,7 @@ module _ (words : List ℕ) (ground : Ground) (S : MonitorState) (root state : �
   numbered = let room = may.room in (omega arith, omega arith)
 
   grown_stand : Stand ground.pages ground.harts words grown
-  grown_stand = stand_kept ground.pages ground.harts words S (S.tvms ++ created t (board_in S) ∷ []) t (maps_grown S t (board_in S)) stands.words_stand
+  grown_stand = stand_kept ground.pages ground.harts words S (S.tvms ++ created t (mode_of root) (board_in S) ∷ []) t (maps_grown S t (mode_of root) (board_in S)) stands.words_stand
 
   rooted_stand : Stand ground.pages ground.harts rooted rooted_state
   rooted_stand =
@@ -181,7 +183,7 @@ module _ (words : List ℕ) (ground : Ground) (S : MonitorState) (root state : �
         ∙ sym (length_change (given_to t AsState) place 1 rooted_state.pages ∙ length_change (given_to t AsRoot) first 4 S.pages);
     frame = λ p on.
         let frame = get_or ground.memory p [] in
-        let old = frame_kept S (record S { tvms = S.tvms ++ created t (board_in S) ∷ [] }) frame (page_at S.pages p) (λ u g. words_grown S t (board_in S) u g frame) (stands.frames.frame p on) in
+        let old = frame_kept S (record S { tvms = S.tvms ++ created t (mode_of root) (board_in S) ∷ [] }) frame (page_at S.pages p) (λ u g. words_grown S t (mode_of root) (board_in S) u g frame) (stands.frames.frame p on) in
         let first_is : FrameStands grown frame (page_at rooted_state.pages p) = elim (change_cases (given_to t AsRoot) first 4 S.pages p) [
           | inl same ↦ subst (FrameStands grown frame) (sym same) old
           | inr gives ↦ subst (FrameStands grown frame) (sym gives) (frame_given grown t AsRoot frame (page_at S.pages p) tt old)
@@ -267,7 +269,7 @@ module _ (words : List ℕ) (ground : Ground) (S : MonitorState) (root state : �
               ∙ none_entered words ground S t stands (omega arith) seated fences number hart on;
         }
 
-    module _ (tvm : Tvm) (fresh : IsNewTvm ground.pages (board_in S) first place tvm) where
+    module _ (tvm : Tvm) (fresh : IsNewTvm ground.pages (board_in S) first (mode_of root) place tvm) where
       abbrev table : TvmTable
       table = with_new ground.tvms tvm
 
@@ -279,8 +281,8 @@ module _ (words : List ℕ) (ground : Ground) (S : MonitorState) (root state : �
           ap (live_at table) next_is ∙ added_here ground.tvms.pages ground.tvms.tvms tvm
           ∙ ap (λ life. cond (is_gone life) None (Some tvm)) fresh.life
 
-      found_is : find_tvm (effect S 0 (Create root state)) t ≡ Some (created t (board_in S))
-      found_is = found_last S.tvms (created t (board_in S)) (not_found words ground S t stands (omega arith))
+      found_is : find_tvm (effect S 0 (Create root state)) t ≡ Some (created t (mode_of root) (board_in S))
+      found_is = found_last S.tvms (created t (mode_of root) (board_in S)) (not_found words ground S t stands (omega arith))
 
       board_is : BoardStands (record ground { memory = ground.memory; tvms = table }) (effect S 0 (Create root state))
       board_is = record {
@@ -300,7 +302,7 @@ module _ (words : List ℕ) (ground : Ground) (S : MonitorState) (root state : �
           (record {
             words_leave = created_leaves;
             same_live = λ u other. added_elsewhere ground.tvms.pages ground.tvms.tvms tvm u (λ e. other (e ∙ sym next_is));
-            same_state = λ u other. found_before S.tvms (created t (board_in S)) u (λ e. other (sym e));
+            same_state = λ u other. found_before S.tvms (created t (mode_of root) (board_in S)) u (λ e. other (sym e));
             seats = refl;
           })
           (record {
@@ -309,11 +311,11 @@ module _ (words : List ℕ) (ground : Ground) (S : MonitorState) (root state : �
             board = board_is;
             own = subst (λ live. TvmStands ground.pages ground.harts new_words t S.seats ground.files live (find_tvm (effect S 0 (Create root state)) t)) (sym live_is)
                 (subst (TvmStands ground.pages ground.harts new_words t S.seats ground.files (Some tvm)) (sym found_is)
-                (begun_lives ground.pages ground.harts new_words t first place begun (board_in S) S.seats ground.files tvm fresh));
+                (begun_lives ground.pages ground.harts new_words t first place begun (board_in S) (mode_of root) S.seats ground.files tvm fresh));
             counted = λ p on.
                 shared_kept ground.pages words new_words p (length-stored rooted (fills place 1 (given t State)) ∙ length-stored words (fills first 4 (given t Root)))
                 (λ at low high. behind at low)
-                ∙ stands.counted p on ∙ sym (maps_grown S t (board_in S) p);
+                ∙ stands.counted p on ∙ sym (maps_grown S t (mode_of root) (board_in S) p);
           })
 
 pub create_stands : CreateStands

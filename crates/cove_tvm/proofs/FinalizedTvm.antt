@@ -90,6 +90,7 @@ finalize_stands k words G S hart pc arg tvm model measured v0 v1 v2 v3 stands li
     fields_change_stand k words G S (finalized pc arg) tvm (started_tvm tvm measured v0 v1 v2 v3) model stands (record { number = λ v. refl; mappings = λ v. refl }) live found refl
     (record {
       board = old.board;
+      mode = old.mode;
       room = old.room;
       tables = old.tables;
       owned = record {

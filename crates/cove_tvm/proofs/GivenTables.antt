@@ -9,7 +9,8 @@ use Rattle.std.proofs.lemmas.Map.Made.{length-le_from_is_member}
 use Rattle.std.specs.Cmp.{nat_eq_equiv}
 use Rattle.std.specs.List.{Contains, IsDistinct, list_any, range_with_len}
 use Rattle.cove_base.proofs.StoreLemmas.{get_or-fills_other}
-use Rattle.cove_model.specs.Machine.{given, table_word, fills, stored, Tables, Role, Root, Table, Vcpu, Data, page_run, rule, AsTable, Free, page_at, is_table}
+use Rattle.cove_base.specs.Modes.{leaves_of}
+use Rattle.cove_model.specs.Machine.{given, table_word, fills, stored, Tables, Role, Root, Table, Vcpu, Data, over_levels, page_run, rule, AsTable, Free, page_at, is_table}
 use Rattle.cove_base.specs.Tables.{IsOutside, IsPool, IsSpare}
 use Rattle.cove_base.specs.declared.numbers.Role.TheVariants.{State}
 use Rattle.cove_model.proofs.LeafWords.{given_role}
@@ -18,7 +19,7 @@ use Rattle.cove_model.specs.States.{State as MonitorState}
 use Rattle.cove_model.specs.Tvms.{Tvm as ModelTvm}
 use Rattle.cove_tvm.proofs.BuiltRegions.{live_stands, live_stays}
 use Rattle.cove_tvm.proofs.FreeRuns.{free_word, page_free, run_behind, run_given, run_keeps, run_lawful, run_word}
-use Rattle.cove_tvm.proofs.KeptTables.{link_kept, tables_kept}
+use Rattle.cove_tvm.proofs.KeptTables.{entry_kept, tables_kept}
 use Rattle.cove_tvm.proofs.KeptTvms.{fields_kept, found_kept, mappings_kept}
 use Rattle.cove_stage2.specs.LawfulTables.{AreGiven}
 use Rattle.cove_tvm.specs.GivenRuns.{MayGive}
@@ -91,6 +92,9 @@ module _ (words : List ℕ) (G : Ground) (S : MonitorState) (k base n : ℕ) (ol
   abbrev root : ℕ
   root = old.tables.root.0
 
+  abbrev leaves : ℕ
+  leaves = leaves_of old.tables.mode
+
   abbrev pool : List ℕ
   pool = old.pool.pages
 
@@ -100,8 +104,8 @@ module _ (words : List ℕ) (G : Ground) (S : MonitorState) (k base n : ℕ) (ol
   abbrev more : List ℕ
   more = pool ++ run
 
-  kept_tables : AreTables G.pages G.harts added (suc k) root pool
-  kept_tables = tables_kept G.pages G.harts (suc k) root words added pool keeps was.tables
+  kept_tables : AreTables G.pages G.harts added (suc k) root leaves pool
+  kept_tables = tables_kept G.pages G.harts (suc k) root leaves words added pool keeps was.tables
 
   long : length more ≡ length pool + n
   long = length-append pool run ∙ ap (λ m. length pool + m) (length-range_with_len (base / 4096) n)
@@ -128,7 +132,7 @@ module _ (words : List ℕ) (G : Ground) (S : MonitorState) (k base n : ℕ) (ol
     outside = outside p low high;
     unnamed = λ a slot named.
         not_given p (suc k) Table low high
-        (was.tables.given.linked a p slot (sym (link_kept G.pages G.harts (suc k) root words added pool keeps was.tables a slot) ∙ named));
+        (was.tables.given.linked a p slot (sym (entry_kept G.pages G.harts (suc k) root leaves words added pool keeps was.tables a slot) ∙ named));
     zeros = λ i small.
         behind (table_word G.pages p i) (omega arith)
         ∙ may.stands.words_stand.stands.tables p i (omega arith) small (ap is_table (free_at p low high));
@@ -173,7 +177,7 @@ module _ (words : List ℕ) (G : Ground) (S : MonitorState) (k base n : ℕ) (ol
     ];
   }
 
-  more_tables : AreTables G.pages G.harts added (suc k) root more
+  more_tables : AreTables G.pages G.harts added (suc k) root leaves more
   more_tables = record { tree = kept_tables.tree; spare = more_spare; given = more_given }
 
   fits : length pool + n ≤ old.pool.room
@@ -234,7 +238,7 @@ module _ (words : List ℕ) (G : Ground) (S : MonitorState) (k base n : ℕ) (ol
       ];
     }
 
-    count_is : length (model.tables ++ run) ≡ length model.thirds + length model.seconds + length new.pool.pages
+    count_is : length (model.tables ++ run) ≡ over_levels (λ level. length (model.prefixes level)) leaves + length new.pool.pages
     count_is =
         let tables = length-append model.tables run in
         let pages = length-range_with_len (base / 4096) n in
@@ -246,14 +250,15 @@ module _ (words : List ℕ) (G : Ground) (S : MonitorState) (k base n : ℕ) (ol
     kept : AreFields G.pages G.harts added (suc k) S.seats G.files old model
     kept = fields_kept G.pages G.harts (suc k) words added keeps S.seats G.files old model was
 
-    kept_mappings : AreMappings G.pages G.harts added (suc k) root pool model
+    kept_mappings : AreMappings G.pages G.harts added (suc k) root leaves pool model
     kept_mappings = mappings_kept G.pages G.harts (suc k) words added keeps S.seats G.files old model was
 
     renewed_stands : LiveStands G.pages G.harts added (suc k) S.seats G.files renewed (how model)
     renewed_stands = record {
       board = was.board;
+      mode = was.mode;
       room = adds.room ∙ was.room;
-      tables = subst (AreTables G.pages G.harts added (suc k) root) (sym adds.pages) more_tables;
+      tables = subst (AreTables G.pages G.harts added (suc k) root leaves) (sym adds.pages) more_tables;
       owned = owned;
       mappings = record { leaf = kept_mappings.leaf; far = kept_mappings.far; links = kept_mappings.links; count = count_is };
       fields = record {

@@ -2,7 +2,7 @@
 use Rattle.std.proofs.Common.{◌≡◌, ℕ, zero, suc, ◌+◌, ◌/◌, ◌<◌, ◌≤◌, ◌∙◌, ◌⊎◌, List, true, get_or, set, refl, sym, subst, inl, inr, arith, get_or-set_other}
 use Rattle.std.proofs.Math.Path.{fun_ext}
 use Rattle.cove_base.proofs.StoreLemmas.{get_or-fills_other}
-use Rattle.cove_model.specs.Machine.{given, answered_word, hart_word, AllAllowed, fills, stored, ENTRY_LIMIT, TVM_LIMIT, Role, Root, Gives, IsFreeIn, IsLawful, IsLeft, every, is_free, page_at, IsSeated, FencesWithin, FreeStands, PageStands, answered_in, epoch_in, maps_of}
+use Rattle.cove_model.specs.Machine.{given, answered_word, hart_word, AllAllowed, fills, stored, ENTRY_LIMIT, TVM_LIMIT, Role, Root, ChangesPage, Gives, IsFreeIn, IsLawful, IsLeft, every, is_free, page_at, IsSeated, FencesWithin, FreeStands, PageStands, answered_in, epoch_in, maps_of}
 use Rattle.cove_base.specs.declared.numbers.Role.TheVariants.{State}
 use Rattle.cove_model.proofs.Runs.{every_at}
 use Rattle.cove_model.proofs.StandLemmas.{free_page}
@@ -32,7 +32,7 @@ gives_as pages harts hart t old role first zero now inside low high left free = 
 gives_as pages harts hart t old role first (suc n) now inside low high left free =
     let behind : (place : ℕ) → pages ≤ place → get_or (set now first (given t role)) place 0 ≡ get_or now place 0 =
     λ place past. get_or-set_other now first place (given t role) 0 (omega arith) in (
-      Gives first t role (omega arith) low high refl (free first (omega arith) (omega arith)) refl left,
+      ChangesPage first (omega arith) refl (Gives t role low high (free first (omega arith) (omega arith)) refl left),
       gives_as pages harts hart t old role (first + 1) n (set now first (given t role)) (omega arith) low high
           (λ root. left_still pages harts t now (set now first (given t role)) behind (left root))
           (λ p above below.

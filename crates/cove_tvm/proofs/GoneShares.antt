@@ -1,19 +1,21 @@
 -- How often the tables of a TVM share a page, and how often its mappings do.
-use Rattle.std.proofs.Common.{◌≡◌, ◌≢◌, ℕ, suc, ◌+◌, ◌-◌, ◌*◌, ◌/◌, ◌%◌, ◌^◌, ◌<◌, ◌≤◌, ◌∙◌, ◌||◌, not, Bool, true, false, true≢false, cond, eqb, eqb-true, eq-eqb, List, [], ◌∷◌, ◌++◌, count_by, get_or, length, length-set, map, set, get_or-set_other, Option, Some, None, refl, sym, ap, subst, inl, inr, ◌⊎◌, arith}
+use Rattle.std.proofs.Common.{◌≡◌, ◌≢◌, ℕ, zero, suc, ◌+◌, ◌-◌, ◌*◌, ◌/◌, ◌%◌, ◌^◌, ◌<◌, ◌≤◌, ◌∙◌, ◌||◌, not, Bool, true, false, true≢false, cond, eqb, eqb-true, eq-eqb, List, [], ◌∷◌, ◌++◌, count_by, get_or, length, length-set, map, set, get_or-set_other, Option, Some, None, refl, sym, ap, subst, inl, inr, ◌⊎◌, arith}
 use Rattle.std.proofs.lemmas.Bool.{cases_eq, cases_lt, ne_eqb}
 use Rattle.std.proofs.lemmas.List.{get_or_default}
 use Rattle.std.proofs.lemmas.List.Sums.{sum_by-append, sum_by-cons}
 use Rattle.std.proofs.lemmas.Option.{none-some, same_Some}
 use Rattle.std.specs.Prelude.{Contains, filter_map, flat_map}
-use Rattle.cove_base.proofs.TableLemmas.{below-absent}
-use Rattle.cove_base.proofs.TreeLemmas.{entry-stands, last-number, middle≢last, named-outside, root≢last}
-use Rattle.cove_base.proofs.TreeStores.{IsStoreAt, OnlyAt, leaf-store, tree-leaf}
+use Rattle.cove_base.proofs.TableLemmas.{next-cases}
+use Rattle.cove_base.proofs.TreeLemmas.{entry-stands, named-above, named-outside, slot-depth, slot-number}
+use Rattle.cove_base.proofs.TreeStores.{OnlyAt, leaf-store, spare-apart, tree-leaf}
+use Rattle.cove_base.specs.Modes.{leaves_of}
 use Rattle.cove_model.specs.Machine.{given, all_words, table_word, Root, Table, at, dropped, IsTableOf, mapping_of, page_under, AreDistinct, guests_of, has, Seat, shown_page}
-use Rattle.cove_base.specs.Tables.{Slot, InRoot, InMiddle, InLast, IsAbsent, IsLink, NoTable, ATable, IsLinkSlot, IsTree, StandsAt, below, entry_at, leaf_at, next_table}
+use Rattle.cove_base.specs.Tables.{Slot, At, IsAbsent, IsLink, NoTable, ATable, IsLinkSlot, IsSlot, IsSpare, IsTree, StandsAt, entry_at, entry_in, leaf_at, next_table, slots_at}
 use Rattle.cove_imsic.specs.FileTables.{FileTable}
 use Rattle.cove_model.proofs.SharedLeaves.{stores_count_shared}
 use Rattle.cove_model.specs.TableLaw.{is_shared_leaf, shared_leaves, shared_once}
 use Rattle.cove_model.specs.Tvms.{Backing, HostPage, OwnPage, Mapping, Standing, Blocked, Present, Tvm as ModelTvm}
+use Rattle.cove_stage2.proofs.LawfulLemmas.{given_in}
 use Rattle.cove_stage2.proofs.SharedWords.{is_shared, not_shared, once_is}
 use Rattle.cove_tvm.proofs.KeptGround.{flag, window_same}
 use Rattle.cove_tvm.specs.DestroyedTvms.{Destroys}
@@ -137,106 +139,111 @@ none_mapped n (m ∷ ms) e = go (eqb m.guest n) e (none_mapped n ms)
     go true q more = absurd (true≢false q)
     go false q more = more q
 
--- a leaf that is there stands somewhere
-leaf_place : (pages root : ℕ) (words : List ℕ) (g : ℕ) → IsTree pages root words → g < 2 ^ 29 → leaf_at pages root words g ≢ 0
-    → (place : ℕ) × StandsAt pages root words (InLast g) place
-leaf_place pages root words g tree low some = go (tree.links (InMiddle (g / 512)) (omega arith))
-  where
-    go : IsLink pages root (entry_at pages root words (InMiddle (g / 512))) → (place : ℕ) × StandsAt pages root words (InLast g) place
-    go (NoTable e) = absurd (some (ap (λ k. below pages words k (g % 512)) e ∙ below-absent pages words (g % 512)))
-    go (ATable page out e) = (table_word pages page (g % 512), (page, e, refl))
+-- an entry that is there stands somewhere
+entry_place : (pages root : ℕ) (words : List ℕ) (d n : ℕ) → entry_in pages root words d n ≢ 0 → (place : ℕ) × StandsAt pages root words (At d n) place
+entry_place pages root words zero n some = (table_word pages root n, refl)
+entry_place pages root words (suc d) n some = elim (next-cases pages (entry_in pages root words d (n / 512))) [
+  | inl (page, named) ↦ (table_word pages page (n % 512), (page, named, refl))
+  | inr empty ↦ absurd (some (empty words (n % 512)))
+]
+
+-- a slot stands among the words of tables
+in_tables : (pages root leaves : ℕ) (words : List ℕ) → IsTree pages root leaves words → (a : Slot) (place : ℕ) → IsSlot a → StandsAt pages root words a place
+    → (pages ≤ place) × (place < 513 * pages)
+in_tables pages root leaves words tree (At zero n) place slot is = let fits = tree.fits in (omega arith, omega arith)
+in_tables pages root leaves words tree (At (suc d) n) place slot (page, named, is) =
+    let board = (named-outside pages root leaves words tree (At d (n / 512)) page (omega arith) named).0 in (omega (arith, is), omega (arith, is, board))
 
 -- Words after each leaf was cleared: nothing else changed, and a page is shared as often less as the mappings did.
-record Cleared (pages root : ℕ) (words : List ℕ) (p n : ℕ) : Type 0 where
+record Cleared (pages root leaves : ℕ) (words : List ℕ) (p n : ℕ) : Type 0 where
   left : List ℕ
   size : length left ≡ length words
-  tree : IsTree pages root left
-  links : (a : Slot) → IsLinkSlot a → entry_at pages root left a ≡ entry_at pages root words a
-  leaves : (g : ℕ) → g < 2 ^ 29 → leaf_at pages root left g ≡ 0
-  others : (place : ℕ) → ((g : ℕ) → g < 2 ^ 29 → StandsAt pages root words (InLast g) place → ⊥) → get_or left place 0 ≡ get_or words place 0
+  tree : IsTree pages root leaves left
+  links : (a : Slot) → IsLinkSlot leaves a → entry_at pages root left a ≡ entry_at pages root words a
+  leaf : (g : ℕ) → g < slots_at leaves → leaf_at pages root leaves left g ≡ 0
+  others : (place : ℕ) → ((g : ℕ) → g < slots_at leaves → StandsAt pages root words (At leaves g) place → ⊥) → get_or left place 0 ≡ get_or words place 0
   count : shared_leaves pages left p + n ≡ shared_leaves pages words p
 
 -- one leaf that is cleared
-module _ (pages harts root p : ℕ) (words : List ℕ) (size : length words ≡ all_words pages harts) (tree : IsTree pages root words)
-    (g place n : ℕ) (low : g < 2 ^ 29) (stands : StandsAt pages root words (InLast g) place)
-    (once : shared_once p (leaf_at pages root words g) ≡ n) where
+module _ (pages harts root leaves p : ℕ) (words : List ℕ) (size : length words ≡ all_words pages harts) (tree : IsTree pages root leaves words)
+    (g place n : ℕ) (low : g < slots_at leaves) (stands : StandsAt pages root words (At leaves g) place)
+    (once : shared_once p (leaf_at pages root leaves words g) ≡ n) where
   abbrev next : List ℕ
   next = set words place 0
 
-  store : IsStoreAt pages root words (InLast g) place
-  store = record { tree = tree; slot = low; at = stands }
+  only : OnlyAt pages root words next (At leaves g) 0
+  only = leaf-store pages root leaves words place 0 g (record { tree = tree; slot = low; at = stands }) (IsAbsent refl)
 
-  only : OnlyAt pages root words next (InLast g) 0
-  only = leaf-store pages root words g place 0 store
+  next_tree : IsTree pages root leaves next
+  next_tree = tree-leaf pages root leaves words next g 0 tree only (IsAbsent refl)
 
-  next_tree : IsTree pages root next
-  next_tree = tree-leaf pages root words next g 0 tree only (IsAbsent refl)
+  next_links : (a : Slot) → IsLinkSlot leaves a → entry_at pages root next a ≡ entry_at pages root words a
+  next_links (At d m) slot = only.others (At d m) slot.1 (λ e. let deep = slot-depth d leaves m g e in omega (arith, slot.0))
 
-  next_links : (a : Slot) → IsLinkSlot a → entry_at pages root next a ≡ entry_at pages root words a
-  next_links (InRoot m) slot = only.others (InRoot m) slot (root≢last m g)
-  next_links (InMiddle m) slot = only.others (InMiddle m) slot (middle≢last m g)
-  next_links (InLast h) slot = absurd slot
+  next_leaf : (h : ℕ) → h < slots_at leaves → h ≢ g → leaf_at pages root leaves next h ≡ leaf_at pages root leaves words h
+  next_leaf h small off = only.others (At leaves h) small (λ e. off (slot-number leaves leaves h g e))
 
-  next_leaf : (h : ℕ) → h < 2 ^ 29 → h ≢ g → leaf_at pages root next h ≡ leaf_at pages root words h
-  next_leaf h small off = only.others (InLast h) small (λ e. off (last-number h g e))
+  -- leaves stand where they stood
+  next_stands : (d m at : ℕ) → d ≤ leaves → m < slots_at d → StandsAt pages root next (At d m) at → StandsAt pages root words (At d m) at
+  next_stands zero m at deep slot there = there
+  next_stands (suc d) m at deep slot (page, named, is) = (page, sym (next_links (At d (m / 512)) (omega arith, omega arith)) ∙ named, is)
 
   next_count : shared_leaves pages next p + n ≡ shared_leaves pages words p
   next_count =
-      let board = (named-outside pages root words tree (InMiddle (g / 512)) stands.0 (omega arith) stands.1).0 in
-      let is : place ≡ table_word pages stands.0 (g % 512) = stands.2 in
-      let step = (stores_count_shared pages harts words p size).1 place 0 (omega arith) (omega arith) in
-      let was : shared_once p (leaf_at pages root words g) ≡ shared_once p (get_or words place 0) = ap (shared_once p) (entry-stands pages root words (InLast g) place stands) in
+      let range = in_tables pages root leaves words tree (At leaves g) place low stands in
+      let step = (stores_count_shared pages harts words p size).1 place 0 range.0 range.1 in
+      let was : shared_once p (leaf_at pages root leaves words g) ≡ shared_once p (get_or words place 0) = ap (shared_once p) (entry-stands pages root words (At leaves g) place stands) in
       let none : shared_once p 0 ≡ 0 = once_is p 0 false refl in
       omega arith
 
   -- and then the others
-  cleared_on : (m : ℕ) → Cleared pages root next p m → Cleared pages root words p (n + m)
+  cleared_on : (m : ℕ) → Cleared pages root leaves next p m → Cleared pages root leaves words p (n + m)
   cleared_on m rest = record {
     left = rest.left;
     size = rest.size ∙ length-set words place 0;
     tree = rest.tree;
     links = λ a slot. rest.links a slot ∙ next_links a slot;
-    leaves = rest.leaves;
+    leaf = rest.leaf;
     others = λ at none.
-        rest.others at (λ h small there. none h small (there.0, sym (next_links (InMiddle (h / 512)) (omega arith)) ∙ there.1, there.2))
-        ∙ get_or-set_other words place at 0 0 (λ e. none g low (subst (StandsAt pages root words (InLast g)) (sym e) stands));
+        rest.others at (λ h small there. none h small (next_stands leaves h at (omega arith) small there))
+        ∙ get_or-set_other words place at 0 0 (λ e. none g low (subst (StandsAt pages root words (At leaves g)) (sym e) stands));
     count = let first = next_count in let more = rest.count in omega arith;
   }
 
-clears : (pages harts root p : ℕ) (ms : List Mapping) (words : List ℕ) → length words ≡ all_words pages harts → IsTree pages root words
+clears : (pages harts root leaves p : ℕ) (ms : List Mapping) (words : List ℕ) → length words ≡ all_words pages harts → IsTree pages root leaves words
     → AreDistinct (map (λ (m : Mapping). m.guest) ms)
-    → ((g : ℕ) → g < 2 ^ 29 → Shares p (leaf_at pages root words g) (at (λ (m : Mapping). m.guest) g ms))
-    → ((g : ℕ) → 2 ^ 29 ≤ g → at (λ (m : Mapping). m.guest) g ms ≡ None)
-    → Cleared pages root words p (times p (shown ms))
-clears pages harts root p [] words size tree apart each far = record {
+    → ((g : ℕ) → g < slots_at leaves → Shares p (leaf_at pages root leaves words g) (at (λ (m : Mapping). m.guest) g ms))
+    → ((g : ℕ) → slots_at leaves ≤ g → at (λ (m : Mapping). m.guest) g ms ≡ None)
+    → Cleared pages root leaves words p (times p (shown ms))
+clears pages harts root leaves p [] words size tree apart each far = record {
   left = words;
   size = refl;
   tree = tree;
   links = λ a slot. refl;
-  leaves = each;
+  leaf = each;
   others = λ place none. refl;
   count = omega arith;
 }
-clears pages harts root p (m ∷ ms) words size tree apart each far =
-    subst (Cleared pages root words p) (sym (shown_first p m ms))
-    (cleared_on pages harts root p words size tree m.guest place.0 (times p (shown (m ∷ []))) low place.1 here.1 (times p (shown ms))
-    (clears pages harts root p ms (set words place.0 0) (length-set words place.0 0 ∙ size)
-    (next_tree pages harts root p words size tree m.guest place.0 (times p (shown (m ∷ []))) low place.1 here.1) apart.1 each_next far_next))
+clears pages harts root leaves p (m ∷ ms) words size tree apart each far =
+    subst (Cleared pages root leaves words p) (sym (shown_first p m ms))
+    (cleared_on pages harts root leaves p words size tree m.guest place.0 (times p (shown (m ∷ []))) low place.1 here.1 (times p (shown ms))
+    (clears pages harts root leaves p ms (set words place.0 0) (length-set words place.0 0 ∙ size)
+    (next_tree pages harts root leaves p words size tree m.guest place.0 (times p (shown (m ∷ []))) low place.1 here.1) apart.1 each_next far_next))
   where
     found : at (λ (x : Mapping). x.guest) m.guest (m ∷ ms) ≡ Some m
     found = ap (λ b. cond b (Some m) (at (λ (x : Mapping). x.guest) m.guest ms)) (eq-eqb m.guest m.guest refl)
 
-    low : m.guest < 2 ^ 29
-    low = elim (cases_lt m.guest (2 ^ 29)) [
+    low : m.guest < slots_at leaves
+    low = elim (cases_lt m.guest (slots_at leaves)) [
       | inl under ↦ under
       | inr over ↦ absurd (none-some m (sym (far m.guest over) ∙ found))
     ]
 
-    here : (leaf_at pages root words m.guest ≢ 0) × (shared_once p (leaf_at pages root words m.guest) ≡ times p (shown (m ∷ [])))
-    here = subst (Shares p (leaf_at pages root words m.guest)) found (each m.guest low)
+    here : (leaf_at pages root leaves words m.guest ≢ 0) × (shared_once p (leaf_at pages root leaves words m.guest) ≡ times p (shown (m ∷ [])))
+    here = subst (Shares p (leaf_at pages root leaves words m.guest)) found (each m.guest low)
 
-    place : (place : ℕ) × StandsAt pages root words (InLast m.guest) place
-    place = leaf_place pages root words m.guest tree low here.0
+    place : (place : ℕ) × StandsAt pages root words (At leaves m.guest) place
+    place = entry_place pages root words leaves m.guest here.0
 
     other_guest : (g : ℕ) → g ≢ m.guest → at (λ (x : Mapping). x.guest) g (m ∷ ms) ≡ at (λ (x : Mapping). x.guest) g ms
     other_guest g off = ap (λ b. cond b (Some m) (at (λ (x : Mapping). x.guest) g ms)) (ne_eqb m.guest g (λ e. off (sym e)))
@@ -244,18 +251,18 @@ clears pages harts root p (m ∷ ms) words size tree apart each far =
     gone : at (λ (x : Mapping). x.guest) m.guest ms ≡ None
     gone = none_mapped m.guest ms apart.0
 
-    each_next : (g : ℕ) → g < 2 ^ 29 → Shares p (leaf_at pages root (set words place.0 0) g) (at (λ (x : Mapping). x.guest) g ms)
+    each_next : (g : ℕ) → g < slots_at leaves → Shares p (leaf_at pages root leaves (set words place.0 0) g) (at (λ (x : Mapping). x.guest) g ms)
     each_next g small = elim (cases_eq g m.guest) [
-      | inl same ↦ subst (λ k. Shares p (leaf_at pages root (set words place.0 0) k) (at (λ (x : Mapping). x.guest) k ms)) (sym same)
-          (subst (Shares p (leaf_at pages root (set words place.0 0) m.guest)) (sym gone)
-          (only pages harts root p words size tree m.guest place.0 (times p (shown (m ∷ []))) low place.1 here.1).here)
+      | inl same ↦ subst (λ k. Shares p (leaf_at pages root leaves (set words place.0 0) k) (at (λ (x : Mapping). x.guest) k ms)) (sym same)
+          (subst (Shares p (leaf_at pages root leaves (set words place.0 0) m.guest)) (sym gone)
+          (only pages harts root leaves p words size tree m.guest place.0 (times p (shown (m ∷ []))) low place.1 here.1).here)
       | inr off ↦
-          let stays = next_leaf pages harts root p words size tree m.guest place.0 (times p (shown (m ∷ []))) low place.1 here.1 g small off in
+          let stays = next_leaf pages harts root leaves p words size tree m.guest place.0 (times p (shown (m ∷ []))) low place.1 here.1 g small off in
           subst (λ leaf. Shares p leaf (at (λ (x : Mapping). x.guest) g ms)) (sym stays)
-          (subst (Shares p (leaf_at pages root words g)) (other_guest g off) (each g small))
+          (subst (Shares p (leaf_at pages root leaves words g)) (other_guest g off) (each g small))
     ]
 
-    far_next : (g : ℕ) → 2 ^ 29 ≤ g → at (λ (x : Mapping). x.guest) g ms ≡ None
+    far_next : (g : ℕ) → slots_at leaves ≤ g → at (λ (x : Mapping). x.guest) g ms ≡ None
     far_next g big = sym (other_guest g (λ e. let under = low in omega arith)) ∙ far g big
 
 -- no link shares a page
@@ -271,73 +278,67 @@ module _ (pages harts : ℕ) (words new : List ℕ) (t : ℕ) (seats : ℕ → O
   abbrev root : ℕ
   root = tvm.tables.root.0
 
+  abbrev leaves : ℕ
+  leaves = leaves_of tvm.tables.mode
+
   few : pages ≤ 2 ^ 16
   few = let limit = tvm.tables.limit in let board = live.board in omega arith
 
-  cleared : Cleared pages root words p (times p (shown_by model))
+  cleared : Cleared pages root leaves words p (times p (shown_by model))
   cleared =
-      clears pages harts root p model.mappings words size live.tables.tree guests
-      (λ g low. shares pages harts words t p (leaf_at pages root words g) (mapping_of model g) few (live.mappings.leaf g low)) live.mappings.far
+      clears pages harts root leaves p model.mappings words size live.tables.tree guests
+      (λ g low. shares pages harts words t p (leaf_at pages root leaves words g) (mapping_of model g) few (live.mappings.leaf g low)) live.mappings.far
 
-  -- a leaf stands in a table of the TVM, which a link names
-  leaf_table : (g place : ℕ) → g < 2 ^ 29 → StandsAt pages root words (InLast g) place
-      → (q : ℕ) × (q < pages) × (place ≡ table_word pages q (g % 512)) × (get_or words q 0 ≡ given t Table) × (entry_at pages root words (InMiddle (g / 512)) ≡ next_table q)
-  leaf_table g place low there = (
-    there.0,
-    (named-outside pages root words live.tables.tree (InMiddle (g / 512)) there.0 (omega arith) there.1).0,
-    there.2,
-    live.tables.given.linked (InMiddle (g / 512)) there.0 (omega arith) there.1,
-    there.1,
-  )
-
-  -- a word of a page without leaves stays
-  stays_out : (q i : ℕ) → i < 512 → ((g : ℕ) → g < 2 ^ 29 → entry_at pages root words (InMiddle (g / 512)) ≢ next_table q)
+  -- a word where no leaf stands stays
+  stays_out : (q i : ℕ) → ((g : ℕ) → g < slots_at leaves → StandsAt pages root words (At leaves g) (table_word pages q i) → ⊥)
       → get_or cleared.left (table_word pages q i) 0 ≡ get_or words (table_word pages q i) 0
-  stays_out q i low none = cleared.others (table_word pages q i) (λ g small there.
-      let on = leaf_table g (table_word pages q i) small there in
-      let is = on.2 in
-      let same : on.0 ≡ q = omega arith in
-      none g small (on.4 ∙ ap next_table same))
+  stays_out q i none = cleared.others (table_word pages q i) none
 
-  -- the words of a table that a link names
-  below_link : (a : Slot) (q i : ℕ) → IsLinkSlot a → i < 512 → entry_at pages root words a ≡ next_table q → is_shared_leaf p (get_or cleared.left (table_word pages q i) 0) ≡ false
-  below_link (InRoot m) q i slot low named =
-      let upper : (512 * m + i) / 512 ≡ m = omega arith in
-      let lower : i ≡ (512 * m + i) % 512 = omega arith in
-      let is : entry_at pages root cleared.left (InRoot ((512 * m + i) / 512)) ≡ next_table q =
-      ap (λ k. entry_at pages root cleared.left (InRoot k)) upper ∙ cleared.links (InRoot m) slot ∙ named in
-      let stands = entry-stands pages root cleared.left (InMiddle (512 * m + i)) (table_word pages q i) (q, is, ap (table_word pages q) lower) in
-      ap (is_shared_leaf p) (sym stands)
-      ∙ link_flag pages root p (entry_at pages root cleared.left (InMiddle (512 * m + i))) (cleared.tree.links (InMiddle (512 * m + i)) (omega arith))
-  below_link (InMiddle m) q i slot low named =
-      let upper : (512 * m + i) / 512 ≡ m = omega arith in
-      let lower : i ≡ (512 * m + i) % 512 = omega arith in
-      let is : entry_at pages root cleared.left (InMiddle ((512 * m + i) / 512)) ≡ next_table q =
-      ap (λ k. entry_at pages root cleared.left (InMiddle k)) upper ∙ cleared.links (InMiddle m) slot ∙ named in
-      let stands = entry-stands pages root cleared.left (InLast (512 * m + i)) (table_word pages q i) (q, is, ap (table_word pages q) lower) in
-      ap (is_shared_leaf p) (sym stands ∙ cleared.leaves (512 * m + i) (omega arith))
-  below_link (InLast g) q i slot low named = absurd slot
+  -- a leaf stands in a table of the TVM's
+  no_leaf : (q i : ℕ) → i < 512 → (IsTableOf words t q → ⊥) → (g : ℕ) → g < slots_at leaves → StandsAt pages root words (At leaves g) (table_word pages q i) → ⊥
+  no_leaf q i low none g small there =
+      let own = given_in pages words t root leaves tvm.pool.pages live.tables.tree live.tables.given (At leaves g) (table_word pages q i) small there in
+      let is : table_word pages q i ≡ table_word pages own.page own.i = own.at in
+      let within = own.low in
+      let same : own.page ≡ q = omega arith in
+      none (subst (IsTableOf words t) same own.own)
 
-  -- no word of the TVM's tables shares a page, once the leaves are cleared
+  -- no entry shares a page, once the leaves are cleared
+  entry_flag : (d n : ℕ) → d ≤ leaves → n < slots_at d → is_shared_leaf p (entry_in pages root cleared.left d n) ≡ false
+  entry_flag d n deep slot = elim (cases_lt d leaves) [
+    | inl above ↦ link_flag pages root p (entry_in pages root cleared.left d n) (cleared.tree.links (At d n) (above, slot))
+    | inr last ↦
+        let same : leaves ≡ d = omega arith in
+        ap (is_shared_leaf p) (subst (λ k. (g : ℕ) → g < slots_at k → entry_in pages root cleared.left k g ≡ 0) same cleared.leaf n slot)
+  ]
+
+  -- the words of a table that a slot names
+  below_link : (a : Slot) (q i : ℕ) → IsSlot a → i < 512 → entry_at pages root words a ≡ next_table q → is_shared_leaf p (get_or cleared.left (table_word pages q i) 0) ≡ false
+  below_link (At d m) q i slot low named =
+      let above = (named-above pages root leaves words live.tables.tree (At d m) q slot named).0 in
+      let upper : m ≡ (512 * m + i) / 512 = omega arith in
+      let lower : i ≡ (512 * m + i) % 512 = omega arith in
+      let is : entry_in pages root cleared.left d ((512 * m + i) / 512) ≡ next_table q =
+      ap (entry_in pages root cleared.left d) (sym upper) ∙ cleared.links (At d m) (above, slot) ∙ named in
+      ap (is_shared_leaf p) (sym (entry-stands pages root cleared.left (At (suc d) (512 * m + i)) (table_word pages q i) (q, is, ap (table_word pages q) lower)))
+      ∙ entry_flag (suc d) (512 * m + i) (omega (arith, above)) (omega arith)
+
+  -- no word of the TVM's tables shares a page
   own_flag : (q i : ℕ) → q < pages → i < 512 → IsTableOf words t q → is_shared_leaf p (get_or cleared.left (table_word pages q i) 0) ≡ false
   own_flag q i on low (inl is) =
       let found = live.owned.found q Root on is in
       let first = found.0 in
       let last = found.1 in
-      let n : ℕ = 512 * (q - root) + i in
-      let small : 512 * (q - root) + i < 2048 = omega arith in
       let here : table_word pages root (512 * (q - root) + i) ≡ table_word pages q i = omega arith in
-      ap (λ k. is_shared_leaf p (get_or cleared.left k 0)) (sym here)
-      ∙ link_flag pages root p (entry_at pages root cleared.left (InRoot (512 * (q - root) + i))) (cleared.tree.links (InRoot (512 * (q - root) + i)) small)
+      ap (λ k. is_shared_leaf p (get_or cleared.left k 0)) (sym here) ∙ entry_flag 0 (512 * (q - root) + i) (omega arith) (omega arith)
   own_flag q i on low (inr is) = go (live.owned.found q Table on is)
     where
-      go : Contains tvm.pool.pages q ⊎ ((a : Slot) × IsLinkSlot a × (entry_at pages root words a ≡ next_table q)) → is_shared_leaf p (get_or cleared.left (table_word pages q i) 0) ≡ false
+      go : Contains tvm.pool.pages q ⊎ ((a : Slot) × IsSlot a × (entry_at pages root words a ≡ next_table q)) → is_shared_leaf p (get_or cleared.left (table_word pages q i) 0) ≡ false
       go (inl pooled) =
           let same : get_or tvm.pool.pages pooled.0 0 ≡ q = get_or_default tvm.pool.pages pooled.0 0 q pooled.1 ∙ pooled.2 in
-          let spare = live.tables.spare.each pooled.0 pooled.1 in
+          let spare = subst (IsSpare pages root words) same (live.tables.spare.each pooled.0 pooled.1) in
           ap (is_shared_leaf p)
-          (stays_out q i low (λ g small named. spare.unnamed (InMiddle (g / 512)) (omega arith) (named ∙ ap next_table (sym same)))
-          ∙ ap (λ k. get_or words (table_word pages k i) 0) (sym same) ∙ spare.zeros i low)
+          (stays_out q i (λ g small there. spare-apart pages root words q i (table_word pages q i) spare low (At leaves g) small there refl) ∙ spare.zeros i low)
       go (inr linked) = below_link linked.0 q i linked.1 low linked.2
 
   same_flag : (q i : ℕ) → q < pages → i < 512 → is_shared_leaf p (get_or new (table_word pages q i) 0) ≡ is_shared_leaf p (get_or cleared.left (table_word pages q i) 0)
@@ -346,10 +347,13 @@ module _ (pages harts : ℕ) (words new : List ℕ) (t : ℕ) (seats : ℕ → O
     | inr no_root ↦ elim (cases_eq (get_or words q 0) (given t Table)) [
       | inl is ↦ ap (is_shared_leaf p) (destroys.tables q i on low (inr is)) ∙ sym (own_flag q i on low (inr is))
       | inr no_table ↦ ap (is_shared_leaf p)
-          (destroys.others q i on low (λ own. elim own [ inl root_is ↦ no_root root_is | inr table_is ↦ no_table table_is ])
-          ∙ sym (stays_out q i low (λ g small named. no_table (live.tables.given.linked (InMiddle (g / 512)) q (omega arith) named))))
+          (destroys.others q i on low (none no_root no_table) ∙ sym (stays_out q i (no_leaf q i low (none no_root no_table))))
     ]
   ]
+    where
+      none : get_or words q 0 ≢ given t Root → get_or words q 0 ≢ given t Table → IsTableOf words t q → ⊥
+      none no_root no_table (inl is) = no_root is
+      none no_root no_table (inr is) = no_table is
 
   -- a page is shared as often less as the TVM's mappings did
   pub gone_shares : shared_leaves pages new p + times p (shown_by model) ≡ shared_leaves pages words p

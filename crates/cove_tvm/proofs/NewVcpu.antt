@@ -5,6 +5,7 @@ use Rattle.std.proofs.lemmas.Option.{none-some, same_Some}
 use Rattle.cove_base.proofs.StoreLemmas.{get_or-fills_other}
 use Rattle.cove_base.specs.Measurement.{VcpuRecord}
 use Rattle.cove_base.specs.InterruptFiles.{empty_file}
+use Rattle.cove_base.specs.Modes.{leaves_of}
 use Rattle.cove_model.specs.Machine.{given, fills, stored, Role, Root, Table, Vcpu, Data, rule, at, AsVcpu, IsSeated}
 use Rattle.cove_base.specs.declared.calls.HostCall.TheVariants.{Vcpu as VcpuCall}
 use Rattle.cove_base.specs.declared.numbers.Role.TheVariants.{State}
@@ -150,8 +151,9 @@ module _ (words : List ℕ) (G : Ground) (S : MonitorState) (k v state : ℕ) (o
         let mappings = mappings_kept G.pages G.harts (suc k) words added keeps S.seats G.files old model was in
         record {
           board = was.board;
+          mode = was.mode;
           room = was.room;
-          tables = tables_kept G.pages G.harts (suc k) old.tables.root.0 words added old.pool.pages keeps was.tables;
+          tables = tables_kept G.pages G.harts (suc k) old.tables.root.0 (leaves_of old.tables.mode) words added old.pool.pages keeps was.tables;
           owned = owned;
           mappings = record { leaf = mappings.leaf; far = mappings.far; links = mappings.links; count = mappings.count };
           fields = record {

@@ -6,7 +6,8 @@ use Rattle.std.proofs.lemmas.Option.{none-some}
 use Rattle.std.specs.List.{range_with_len}
 use Rattle.std.specs.Prelude.{option_and_then, unwrap_or}
 use Rattle.cove_base.specs.Measurement.{Record, registers_of}
-use Rattle.cove_model.specs.Machine.{given, answered_word, epoch_word, hart_word, table_word, tvm_word, TVM_LIMIT, Role, Root, Table, Data, IsBehindLeaf, IsTableOf, mapping_of, own_words, with_mappings, AsRoot, AsState, AsTable, AsVcpu, AsData, Converting, Free, Given, Host, Owner, page_at, FrameStands, FramesStand, PageStands, answered_in, epoch_in, harts_behind, is_table, maps_of, words_at}
+use Rattle.cove_model.specs.Machine.{given, answered_word, epoch_word, hart_word, table_word, tvm_word, TVM_LIMIT, Role, Root, Table, Data, IsBehindLeaf, IsTableOf, mapping_of, own_words, with_mappings, Owner, page_at, FrameStands, FramesStand, PageStands, answered_in, epoch_in, harts_behind, is_table, maps_of, words_at}
+use Rattle.cove_base.specs.Modes.{leaves_of}
 use Rattle.cove_base.specs.Tables.{leaf_at}
 use Rattle.cove_model.proofs.Distinct.{none_any}
 use Rattle.cove_model.proofs.KeyedLemmas.{at_alter_other, at_alter_same, at_append}
@@ -29,7 +30,7 @@ use Rattle.cove_tvm.proofs.RunLives.{run_lives}
 use Rattle.cove_tvm.proofs.RunMappings.{NamesRun, found_after}
 use Rattle.cove_tvm.proofs.RunPages.{table_owner}
 use Rattle.cove_tvm.proofs.SharedCounts.{shown_outside}
-use Rattle.cove_tvm.proofs.TablesMissing.{lacked_agree}
+use Rattle.cove_tvm.proofs.TablesMissing.{missing_agree}
 use Rattle.cove_tvm.proofs.UsedTables.{in_run}
 use Rattle.cove_tvm.specs.KeptOwn.{KeepsTvm}
 use Rattle.cove_tvm.specs.LeafStands.{LeafStands}
@@ -43,9 +44,9 @@ use Rattle.cove_tvm.specs.declared.ground.Ground.{Ground}
 use Rattle.cove_tvm.specs.declared.machines.Tvm.{Tvm}
 
 -- a run of mapped guest pages leaves every other TVM
-mapped_leaves : (pages harts t u root g p n : ℕ) (shared : Bool) (mid pool new left : List ℕ) → u ≢ t → u ≤ TVM_LIMIT → AreMapped pages harts t root g p n n shared mid pool new left
+mapped_leaves : (pages harts t u root leaves g p n : ℕ) (shared : Bool) (mid pool new left : List ℕ) → u ≢ t → u ≤ TVM_LIMIT → AreMapped pages harts t root leaves g p n n shared mid pool new left
     → LeavesTvm pages harts mid new u
-mapped_leaves pages harts t u root g p n shared mid pool new left other few done = record {
+mapped_leaves pages harts t u root leaves g p n shared mid pool new left other few done = record {
   size = done.size;
   page = λ q role on.
       let same = done.elsewhere q (page_elsewhere pages mid t q on) in
@@ -125,27 +126,26 @@ module _ {test : Owner → Bool} {words : List ℕ} {G : Ground} {S : MonitorSta
       (in_run (gpa / 4096) n j (gpa / 4096 + j) low refl))
 
   module _ {shared : Bool} {mid : List ℕ} (ready : Prepares G.pages G.harts (suc k) (base / 4096) n shared words mid) where
-    mappings_mid : AreMappings G.pages G.harts mid (suc k) old.tables.root.0 old.pool.pages model
+    mappings_mid : AreMappings G.pages G.harts mid (suc k) old.tables.root.0 (leaves_of old.tables.mode) old.pool.pages model
     mappings_mid = mappings_kept G.pages G.harts (suc k) words mid ready.keeps S.seats G.files old model was
 
-    enough : tables_lacked G.pages old.tables.root.0 mid (gpa / 4096) n ≤ length old.pool.pages
+    enough : tables_lacked G.pages old.tables.root.0 mid (leaves_of old.tables.mode) (gpa / 4096) n ≤ length old.pool.pages
     enough =
-        let lacked = lacked_agree G.pages G.harts (suc k) old.tables.root.0 gpa n mid old.pool.pages model mappings_mid may.near in
+        let lacked = missing_agree G.pages G.harts (suc k) old.tables.root.0 (leaves_of old.tables.mode) gpa n mid old.pool.pages model (ap leaves_of was.mode) mappings_mid may.near in
         let none = may.enough in
-        let count = mappings_mid.count in
-        omega (arith, lacked, none, count)
+        omega (arith, lacked, none)
 
     -- the run may be mapped
-    pub run_may : MayMap G.pages G.harts mid (suc k) old.tables.root.0 old.pool.pages (gpa / 4096) (base / 4096) n shared
+    pub run_may : MayMap G.pages G.harts mid (suc k) old.tables.root.0 (leaves_of old.tables.mode) old.pool.pages (gpa / 4096) (base / 4096) n shared
     run_may = record {
       size = ready.size ∙ may.stands.words_stand.stands.size;
       few = let few = may.few in omega arith;
-      tables = tables_kept G.pages G.harts (suc k) old.tables.root.0 words mid old.pool.pages ready.keeps was.tables;
+      tables = tables_kept G.pages G.harts (suc k) old.tables.root.0 (leaves_of old.tables.mode) words mid old.pool.pages ready.keeps was.tables;
       guests = may.near;
       inside = may.inside;
       absent = λ j low.
           let near = may.near in
-          subst (LeafStands G.pages G.harts mid (suc k) (leaf_at G.pages old.tables.root.0 mid (gpa / 4096 + j))) (unmapped j low)
+          subst (LeafStands G.pages G.harts mid (suc k) (leaf_at G.pages old.tables.root.0 (leaves_of old.tables.mode) mid (gpa / 4096 + j))) (unmapped j low)
           (mappings_mid.leaf (gpa / 4096 + j) (omega arith));
       behind = ready.behind;
       enough = enough;
@@ -197,7 +197,7 @@ module _ {test : Owner → Bool} {words : List ℕ} {G : Ground} {S : MonitorSta
 
     module _ {mid new : List ℕ} {frames registers : List (List ℕ)} (left : Pages) (ready : Prepares G.pages G.harts (suc k) (base / 4096) n shared words mid)
         (becomes : Becomes G S T (base / 4096) n shared words mid frames) (room : left.room ≡ old.pool.room)
-        (run : AreMapped G.pages G.harts (suc k) old.tables.root.0 (gpa / 4096) (base / 4096) n n shared mid old.pool.pages new left.pages)
+        (run : AreMapped G.pages G.harts (suc k) old.tables.root.0 (leaves_of old.tables.mode) (gpa / 4096) (base / 4096) n n shared mid old.pool.pages new left.pages)
         (measured : registers ≡ registers_of (records model.records) model.extensions) where
       behind_mid : (at : ℕ) → G.pages ≤ at → get_or mid at 0 ≡ get_or words at 0
       behind_mid at past = let inside = may.inside in ready.others at (inr (omega arith))
@@ -301,7 +301,7 @@ module _ {test : Owner → Bool} {words : List ℕ} {G : Ground} {S : MonitorSta
           (live_stays G.tvms k old may.live) (λ v. refl)
           (λ u other few.
           leaves_twice G.pages G.harts u words mid new (ready.leaves u other few)
-          (mapped_leaves G.pages G.harts (suc k) u old.tables.root.0 (gpa / 4096) (base / 4096) n shared mid old.pool.pages new left.pages other few run))
+          (mapped_leaves G.pages G.harts (suc k) u old.tables.root.0 (leaves_of old.tables.mode) (gpa / 4096) (base / 4096) n shared mid old.pool.pages new left.pages other few run))
           words_stand frames_stand
           (λ p on.
           let leaves = run.counted p in

@@ -1,9 +1,10 @@
 -- The leading parts of guest pages that are in use after a run was mapped.
-use Rattle.std.proofs.Common.{◌≡◌, ◌≢◌, ℕ, zero, suc, ◌+◌, ◌<◌, ◌||◌, ◌∙◌, Bool, true, false, cond, eqb, eqb-true, eq-eqb, map, List, [], ◌∷◌, ◌++◌, refl, sym, ap, subst, inl, inr, arith}
+use Rattle.std.proofs.Common.{◌≡◌, ◌≢◌, ℕ, zero, suc, ◌+◌, ◌<◌, ◌||◌, ◌∙◌, Bool, true, false, cond, eqb, eqb-true, eq-eqb, map, List, [], ◌∷◌, ◌++◌, length, length-append, refl, sym, ap, subst, inl, inr, arith}
 use Rattle.std.proofs.lemmas.Bool.{false≢true, or_cases, or_left, or_right}
 use Rattle.std.proofs.lemmas.List.Folds.{list_any-append}
 use Rattle.std.specs.List.{range_with_len}
-use Rattle.cove_model.specs.Machine.{new_ones, has}
+use Rattle.cove_model.specs.Machine.{new_ones, new_parts, over_levels, has}
+use Rattle.cove_model.specs.Tvms.{Tvm as ModelTvm}
 
 -- ---- numbers that are new
 
@@ -36,6 +37,15 @@ new_has k (n ∷ ns) old = go (has n old) refl (new_has k ns old) (new_has k ns 
 -- a number is in a list with the new ones of another where it is in one of the two
 pub has_either : (k : ℕ) (old ns : List ℕ) → has k (old ++ new_ones old ns) ≡ (has k old || has k ns)
 has_either k old ns = list_any-append (λ m. eqb m k) old (new_ones old ns) ∙ new_has k ns old
+
+-- the leading parts that are in use after a run was mapped are those that were, and its new ones
+pub used_more : (tvm : ModelTvm) (gpa n levels : ℕ) → over_levels (λ level. length (tvm.prefixes level ++ new_parts tvm gpa n level)) levels
+    ≡ over_levels (λ level. length (tvm.prefixes level)) levels + over_levels (λ level. length (new_parts tvm gpa n level)) levels
+used_more tvm gpa n zero = refl
+used_more tvm gpa n (suc levels) =
+    let rest = used_more tvm gpa n levels in
+    let last = length-append (tvm.prefixes (suc levels)) (new_parts tvm gpa n (suc levels)) in
+    omega (arith, rest, last)
 
 -- ---- the numbers of a run
 

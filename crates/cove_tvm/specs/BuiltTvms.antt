@@ -1,8 +1,9 @@
 -- What the calls that build a TVM leave standing.
-use Rattle.std.specs.Prelude.{Option, None, replicate, ◌≡◌, ℕ, suc, ◌/◌, ◌^◌, ◌<◌, ◌++◌, List, [], ◌∷◌, IsTrue, Some}
+use Rattle.std.specs.Prelude.{Option, None, replicate, ◌≡◌, ℕ, suc, ◌/◌, ◌<◌, ◌++◌, List, [], ◌∷◌, IsTrue, Some}
 use Rattle.cove_base.specs.Registers.{registers}
 use Rattle.cove_base.specs.declared.calls.HostCall.TheVariants.{Finalize, Region}
 use Rattle.cove_base.specs.Measurement.{FinalizeRecord, registers_of}
+use Rattle.cove_base.specs.Modes.{guest_limit}
 use Rattle.cove_model.specs.HostCalls.{rule}
 use Rattle.cove_model.specs.States.{State, find_tvm}
 use Rattle.cove_model.specs.Tvms.{Tvm as ModelTvm}
@@ -25,7 +26,7 @@ abbrev pub RegionStands : Type 0
 RegionStands =
     (k : ℕ) (words : List ℕ) (G : Ground) (S : State) (hart gpa len : ℕ) (tvm : Tvm) (model : ModelTvm) (guests : GuestMap)
     → Stands words G S → live_at G.tvms (suc k) ≡ Some tvm → find_tvm S (suc k) ≡ Some model
-    → StandFor guests (with_region gpa len model) → ((g : ℕ) → IsTrue (covers guests.regions g) → g < 2 ^ 29)
+    → StandFor guests (with_region gpa len model) → ((g : ℕ) → IsTrue (covers guests.regions g) → g < guest_limit tvm.tables.mode)
     → Stands words (record G { tvms = with_tvm G.tvms k (record tvm { regions = guests }) })
     (rule S hart (Region (suc k) gpa len)).outcome.state
 

@@ -1,5 +1,6 @@
 -- What the creation of a TVM stores, and that words and ground stand after it.
 use Rattle.std.specs.Prelude.{◌≡◌, ℕ, ◌+◌, ◌/◌, ◌<◌, ◌≤◌, ◌⊎◌, true, List, [], ◌∷◌, ◌++◌}
+use Rattle.cove_base.specs.Modes.{mode_of}
 use Rattle.cove_base.specs.PageWords.{given}
 use Rattle.cove_base.specs.Places.{page_word}
 use Rattle.cove_base.specs.Stores.{AllAllowed, fills, stored}
@@ -41,7 +42,7 @@ abbrev pub CreateStands : Type 0
 CreateStands =
     (words : List ℕ) (G : Ground) (S : MonitorState) (hart root state : ℕ) (tvm : Tvm)
     → Stands words G S → IsOrderly S → IsSeated S → FencesWithin G.pages G.harts words ENTRY_LIMIT
-    → MayCreate G.pages root state S → IsNewTvm G.pages (board_in S) (root / 4096) (state / 4096) tvm
+    → MayCreate G.pages root state S → IsNewTvm G.pages (board_in S) (root / 4096) (mode_of root) (state / 4096) tvm
     → Stands (stored words (create_stores (S.made + 1) root state)) (record G { tvms = with_new G.tvms tvm })
     (effect S hart (Create root state))
 

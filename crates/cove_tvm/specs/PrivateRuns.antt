@@ -1,6 +1,7 @@
 -- Free pages become the memory of a TVM, and its guest pages are mapped to them: what words and ground stand for then.
 use Rattle.std.specs.Prelude.{◌≡◌, ℕ, suc, ◌+◌, ◌/◌, ◌<◌, ◌≤◌, ◌⊎◌, true, false, ◌++◌, List, [], length, slice_index_or}
 use Rattle.cove_base.specs.Measurement.{registers_of}
+use Rattle.cove_base.specs.Modes.{leaves_of}
 use Rattle.cove_base.specs.PageWords.{given}
 use Rattle.cove_base.specs.Places.{page_word}
 use Rattle.cove_base.specs.Stores.{AllAllowed, fills, stored}
@@ -33,7 +34,7 @@ MayGrow words G S k base n gpa old model = MayMapOwnedBy is_free words G S k bas
 -- its guest pages are mapped to the pages, which were given to it
 abbrev pub OwnsRun : (words : List ℕ) (G : Ground) (k base n gpa : ℕ) (old : Tvm) (new : List ℕ) (left : Pages) → Type 0
 OwnsRun words G k base n gpa old new left =
-    AreMapped G.pages G.harts (suc k) old.tables.root.0 (gpa / 4096) (base / 4096) n n false (with_memory words (suc k) base n) old.pool.pages new left.pages
+    AreMapped G.pages G.harts (suc k) old.tables.root.0 (leaves_of old.tables.mode) (gpa / 4096) (base / 4096) n n false (with_memory words (suc k) base n) old.pool.pages new left.pages
 
 -- the frames of n pages from a first one on have these words, and the other frames stay
 pub record FillsFrames (first n : ℕ) (content : ℕ → List ℕ) (frames new : List (List ℕ)) : Type 0 where
@@ -52,7 +53,7 @@ abbrev pub MemoryMayMap : Type 0
 MemoryMayMap =
     (k : ℕ) (words : List ℕ) (G : Ground) (S : State) (base n gpa : ℕ) (old : Tvm) (model : ModelTvm)
     → MayGrow words G S k base n gpa old model
-    → MayMap G.pages G.harts (with_memory words (suc k) base n) (suc k) old.tables.root.0 old.pool.pages (gpa / 4096) (base / 4096) n false
+    → MayMap G.pages G.harts (with_memory words (suc k) base n) (suc k) old.tables.root.0 (leaves_of old.tables.mode) old.pool.pages (gpa / 4096) (base / 4096) n false
 
 -- Where the pages were filled with zeros and are mapped, all of it stands for the state after the call.
 abbrev pub ZeroStands : Type 0

@@ -1,5 +1,6 @@
 -- Guest pages of a TVM are mapped to pages of the host's: what words and ground stand for then.
 use Rattle.std.specs.Prelude.{◌≡◌, ℕ, suc, ◌+◌, ◌/◌, ◌<◌, ◌≤◌, ◌⊎◌, true, List, length, slice_index}
+use Rattle.cove_base.specs.Modes.{leaves_of}
 use Rattle.cove_base.specs.PageWords.{host}
 use Rattle.cove_base.specs.Places.{page_word}
 use Rattle.cove_base.specs.declared.calls.HostCall.TheVariants.{Shared}
@@ -33,7 +34,7 @@ abbrev pub CountsMayMap : Type 0
 CountsMayMap =
     (k : ℕ) (words raised : List ℕ) (G : Ground) (S : State) (base n gpa : ℕ) (old : Tvm) (model : ModelTvm)
     → MayShare words G S k base n gpa old model → RaisesCounts (base / 4096) n words raised
-    → MayMap G.pages G.harts raised (suc k) old.tables.root.0 old.pool.pages (gpa / 4096) (base / 4096) n true
+    → MayMap G.pages G.harts raised (suc k) old.tables.root.0 (leaves_of old.tables.mode) old.pool.pages (gpa / 4096) (base / 4096) n true
 
 -- And where it is mapped then, all of it stands for the state after the call.
 abbrev pub SharedStands : Type 0
@@ -41,6 +42,6 @@ SharedStands =
     (k : ℕ) (words raised new : List ℕ) (G : Ground) (S : State) (hart base n gpa : ℕ) (old : Tvm) (model : ModelTvm) (left : Pages)
     → MayShare words G S k base n gpa old model → IsOrderly S → RaisesCounts (base / 4096) n words raised
     → left.room ≡ old.pool.room
-    → AreMapped G.pages G.harts (suc k) old.tables.root.0 (gpa / 4096) (base / 4096) n n true raised old.pool.pages new left.pages
+    → AreMapped G.pages G.harts (suc k) old.tables.root.0 (leaves_of old.tables.mode) (gpa / 4096) (base / 4096) n n true raised old.pool.pages new left.pages
     → Stands new (record G { tvms = with_tvm G.tvms k (record old { pool = left }) })
     (rule S hart (Shared (suc k) base n gpa)).outcome.state

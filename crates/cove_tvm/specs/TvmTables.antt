@@ -3,6 +3,7 @@ use Rattle.std.specs.Prelude.{◌≡◌, ◌+◌, ◌≤◌, ℕ, zero, suc, Lis
 use Rattle.std.specs.List.{All}
 use Rattle.cove_base.specs.Measurement.{BoardRecord, registers_of}
 use Rattle.cove_base.specs.declared.limits.TheConstants.{PAGE_LIMIT, TVM_LIMIT}
+use Rattle.cove_base.specs.declared.modes.Mode.{Mode}
 use Rattle.cove_stage2.specs.MapStores.{Pages}
 use Rattle.cove_tvm.specs.Lives.{is_gone}
 use Rattle.cove_tvm.specs.declared.machines.Life.TheVariants.{Building}
@@ -23,14 +24,15 @@ abbrev pub live_at : TvmTable → (t : ℕ) → Option Tvm
 live_at table zero = None
 live_at table (suc k) = unless_gone (slice_get table.tvms k)
 
--- a TVM as it is created, on a board of so many pages and of this size in its record
-pub record IsNewTvm (pages size root state : ℕ) (tvm : Tvm) : Type 0 where
+-- a TVM as it is created, with tables of a mode, on a board of so many pages and of this size in its record
+pub record IsNewTvm (pages size root : ℕ) (mode : Mode) (state : ℕ) (tvm : Tvm) : Type 0 where
   pub life : tvm.life ≡ Building
   pub regions : tvm.regions ≡ record { regions = []; rows = [] }
   pub registers : tvm.registers ≡ registers_of (BoardRecord size ∷ []) []
   pub allowed : tvm.allowed ≡ 0
   pub board : tvm.tables.pages ≡ pages
   pub root_is : tvm.tables.root.0 ≡ root
+  pub mode_is : tvm.tables.mode ≡ mode
   pub pool : tvm.pool.pages ≡ []
   pub room : tvm.pool.room ≡ pages
   pub state_is : tvm.state.0 ≡ state

@@ -1,6 +1,7 @@
 -- When a run of guest pages of a TVM may be mapped to pages of the board.
-use Rattle.std.specs.Prelude.{◌≡◌, ℕ, suc, ◌+◌, ◌/◌, ◌^◌, ◌≤◌, Bool, true, false, is_some, List, Some}
+use Rattle.std.specs.Prelude.{◌≡◌, ℕ, suc, ◌+◌, ◌/◌, ◌≤◌, Bool, true, false, is_some, List, Some}
 use Rattle.std.specs.List.{list_any}
+use Rattle.cove_base.specs.Modes.{guest_limit}
 use Rattle.cove_base.specs.declared.limits.TheConstants.{PAGE_LIMIT}
 use Rattle.cove_model.specs.GuestPages.{missing_tables, page_run}
 use Rattle.cove_model.specs.Mappings.{mapping_of}
@@ -22,6 +23,6 @@ pub record MayMapOwnedBy (test : Owner → Bool) (words : List ℕ) (G : Ground)
   pub found : find_tvm S (suc k) ≡ Some model
   pub inside : base / 4096 + n ≤ G.pages
   pub owners : every test (base / 4096) n S.pages ≡ true
-  pub near : gpa / 4096 + n ≤ 2 ^ 29
+  pub near : gpa / 4096 + n ≤ guest_limit old.tables.mode
   pub unmapped : list_any (λ g. is_some (mapping_of model g)) (page_run gpa n) ≡ false
   pub enough : missing_tables model gpa n ≡ 0

@@ -5,7 +5,7 @@ ghost use Rattle.cove_tvm.specs.TvmTables.{AreEmptyPools, IsEmptyPool, IsNewTvm,
 ghost use Rattle.cove_tvm.specs.declared.machines.Tvm.{Tvm};
 
 use crate::machines::{Life, Tvm};
-use cove_base::{NoMemory, PAGE_LIMIT, Page, TVM_LIMIT, TvmId};
+use cove_base::{Mode, NoMemory, PAGE_LIMIT, Page, TVM_LIMIT, TvmId};
 use cove_measure::Registers;
 use cove_region::Regions;
 use cove_stage2::{Pool, Tables};
@@ -77,11 +77,11 @@ impl Tvms {
     }
 
     /// Adds a TVM that is being built: with no region, no vCPU, register 0 extended by the board's record alone, an empty pool,
-    /// and tables whose root begins at a page. The board is told by its number in that record.
-    pub fn create(&mut self, root: Page, state: Page, board: u64) -> TvmId
+    /// and tables of a mode whose root begins at a page. The board is told by its number in that record.
+    pub fn create(&mut self, root: Page, mode: Mode, state: Page, board: u64) -> TvmId
         requires { length self.old.tvms < TVM_LIMIT }
         ensures number { result.0 ≡ length self.old.tvms + 1 }
-        ensures added { (tvm : Tvm) × IsNewTvm self.old.pages board root.0 state.0 tvm × (self.new.tvms ≡ self.old.tvms ++ tvm ∷ []) }
+        ensures added { (tvm : Tvm) × IsNewTvm self.old.pages board root.0 mode state.0 tvm × (self.new.tvms ≡ self.old.tvms ++ tvm ∷ []) }
         ensures pages { self.new.pages ≡ self.old.pages }
     {
         let Some(pool) = self.spare.pop() else {
@@ -90,6 +90,7 @@ impl Tvms {
         let tables = Tables {
             root,
             pages: self.pages,
+            mode,
         };
         self.tvms
             .push_reserved(building(tables, state, pool, board));
@@ -109,7 +110,7 @@ impl Tvms {
 // A TVM that is being built on a board, without anything yet.
 fn building(tables: Tables, state: Page, pool: Pool, board: u64) -> Tvm
     requires { IsEmptyPool tables.pages pool }
-    ensures { IsNewTvm tables.pages board tables.root.0 state.0 result }
+    ensures { IsNewTvm tables.pages board tables.root.0 tables.mode state.0 result }
 {
     let mut registers = Registers::new();
     registers.extend_board(board);

@@ -9,13 +9,13 @@ pub returns-clause-inside : goal.returns-clause-inside
 returns-clause-inside c = not_inside
 
 pub returns-clause-lost : goal.returns-clause-lost
-returns-clause-lost c = λ going. not_lost going.gathered
+returns-clause-lost c = λ leaves going. not_lost going.gathered
 
 pub returns-clause-miscounted : goal.returns-clause-miscounted
 returns-clause-miscounted c = not_miscounted
 
 pub returns-clause-may : goal.returns-clause-may
-returns-clause-may c = (1, 1, 0, rooted, leaving, λ words place word lawful. lawful)
+returns-clause-may c = λ leaves. (1, 1, 0, rooted, leaving leaves, λ words place word lawful. lawful)
 
 pub returns-clause-may_not : goal.returns-clause-may_not
 returns-clause-may_not c = allows_nothing

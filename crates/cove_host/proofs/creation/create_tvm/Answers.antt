@@ -30,5 +30,5 @@ returns-in-Ok-clause-called g c =
     c.give.ensures.words ∙ ap (λ (ws : List ℕ). stored ws (fills (c.args.root / 4096) 4 (given c.create-t.result.0 Root))) c.in-Ok.ensures.unchanged.words in
     creates _ _ c.args.h.0 c.args.root c.args.state c.requires.ready (c.in-Ok.ensures.told 0)
     c.create-t.result.0 c.from.result added.0 c.create-t.new.self _ c.create-t.ensures.number c.from.ensures
-    (rw (c.board_number-board.ensures, c.page_of.ensures, c.page_of-in-Ok.ensures) at added.1) added.2 c.create-t.ensures.pages
+    (rw (c.board_number-board.ensures, c.mode_of.ensures, c.page_of.ensures, c.page_of-in-Ok.ensures) at added.1) added.2 c.create-t.ensures.pages
     (c.give-in-Ok.ensures.words ∙ ap (λ (ws : List ℕ). stored ws (fills (c.args.state / 4096) 1 (given c.create-t.result.0 State))) rooted)

@@ -1,5 +1,8 @@
-use Rattle.std.proofs.Common.{◌∙◌, sym}
+use Rattle.std.proofs.Common.{◌∙◌, ◌+◌, ◌/◌, ◌≤◌, sym}
+use Rattle.std.proofs.lemmas.Result.{on_ok_weaker}
+use Rattle.cove_base.specs.Modes.{guest_limit}
 use Rattle.cove_host.proofs.CheckedLemmas.{front_passes, stops}
+use Rattle.cove_host.proofs.LifeTold.{of_live}
 use Rattle.cove_host.specs.GuestRuns.{owned_as, run_checks}
 use Rattle.cove_host.proofs.mapping.mappable.Goals as goal
 
@@ -50,6 +53,11 @@ returns-clause-told g c = λ S stands.
     c.may_map.ensures.told S c.args.t (rw c.in_ok-owned.ensures.unchanged.words one)
     ∙ sym (front_passes 7 (run_checks (owned_as c.args.shared) c.args.shared S c.args.t c.args.base c.args.n c.args.gpa)
     (c.in_ok-tvm.ensures.told _ S stands, (c.in_ok-is_runnable.ensures.told _ S c.args.t one, (c.in_ok-counted.ensures.told, (c.in_ok-aligned.ensures, (c.in_ok-aligned-2.ensures, (c.in_ok-inside.ensures.told _ S stands, (c.in_ok-owned.ensures.told S stands, tt))))))))
+
+pub returns-clause-near : goal.returns-clause-near
+returns-clause-near g c =
+    on_ok_weaker c.may_map.result
+    (of_live (λ tvm. c.args.gpa / 4096 + c.args.n ≤ guest_limit tvm.tables.mode) c.args.g.now c.args.t _ c.in_ok-tvm.ensures.live) c.may_map.ensures.near
 
 pub may_map-requires-clause-live : goal.may_map-requires-clause-live
 may_map-requires-clause-live g c = record {

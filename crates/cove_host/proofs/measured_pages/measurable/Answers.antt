@@ -1,6 +1,9 @@
-use Rattle.std.proofs.Common.{◌∙◌, sym}
+use Rattle.std.proofs.Common.{◌∙◌, ◌+◌, ◌/◌, ◌≤◌, sym}
+use Rattle.std.proofs.lemmas.Result.{on_ok_weaker}
+use Rattle.cove_base.specs.Modes.{guest_limit}
 use Rattle.cove_model.specs.Machine.{Measured, rule}
 use Rattle.cove_host.proofs.CheckedLemmas.{front_passes, stops}
+use Rattle.cove_host.proofs.LifeTold.{of_live}
 use Rattle.cove_host.proofs.measured_pages.measurable.Goals as goal
 
 pub returns-in_err-tvm-clause-told : goal.returns-in_err-tvm-clause-told
@@ -68,6 +71,11 @@ returns-clause-told g c = λ hart S stands.
     c.may_map.ensures.told S c.args.t (rw (c.in_ok-free.ensures.unchanged.words, c.in_ok-all_host.ensures.unchanged.words) one)
     ∙ sym (front_passes 10 (rule S hart (Measured c.args.t c.args.src c.args.dst c.args.n c.args.gpa)).checks
     (c.in_ok-tvm.ensures.told _ S stands, (c.in_ok-is_building.ensures.told _ S c.args.t one, (c.in_ok-counted.ensures.told, (c.in_ok-aligned.ensures, (c.in_ok-aligned-2.ensures, (c.in_ok-aligned-3.ensures, (c.in_ok-inside.ensures.told _ S stands, (c.in_ok-inside-2.ensures.told _ S stands, (c.in_ok-all_host.ensures.told S stands, (c.in_ok-free.ensures.told S (rw c.in_ok-all_host.ensures.unchanged.words stands), tt)))))))))))
+
+pub returns-clause-near : goal.returns-clause-near
+returns-clause-near g c =
+    on_ok_weaker c.may_map.result
+    (of_live (λ tvm. c.args.gpa / 4096 + c.args.n ≤ guest_limit tvm.tables.mode) c.args.g.now c.args.t _ c.in_ok-tvm.ensures.live) c.may_map.ensures.near
 
 pub may_map-requires-clause-live : goal.may_map-requires-clause-live
 may_map-requires-clause-live g c = record {

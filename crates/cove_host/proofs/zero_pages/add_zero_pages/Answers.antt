@@ -9,7 +9,7 @@ give_zeros-requires-clause-allowed g c =
     let near = c.in-Ok.ensures.near in
     rw (same.guard, same.words)
     (memory_allowed c.requires.ready c.args.base c.args.n c.args.gpa c.args.h.0 c.args.t
-    (zero_grows c.requires.ready c.args.base c.args.n c.args.gpa near c.args.h.0 c.args.t c.in-Ok.ensures.told)
+    (zero_grows c.requires.ready c.args.base c.args.n c.args.gpa c.args.h.0 c.args.t near c.in-Ok.ensures.told)
     _ c.requires.allowed)
 
 pub give_zeros-requires-clause-filled : goal.give_zeros-requires-clause-filled
@@ -21,7 +21,7 @@ map_pages-requires g c = λ tvm live.
     let near = c.in-Ok.ensures.near in
     rw (c.give_zeros.ensures.guard, c.give_zeros.ensures.words, c.page_of-in-Ok.ensures, same.guard, same.words)
     (memory_maps c.requires.ready c.args.base c.args.n c.args.gpa c.args.h.0 c.args.t
-    (zero_grows c.requires.ready c.args.base c.args.n c.args.gpa near c.args.h.0 c.args.t c.in-Ok.ensures.told)
+    (zero_grows c.requires.ready c.args.base c.args.n c.args.gpa c.args.h.0 c.args.t near c.in-Ok.ensures.told)
     _ c.requires.allowed tvm live)
 
 pub returns-in-Err-clause-called : goal.returns-in-Err-clause-called
@@ -32,6 +32,6 @@ returns-in-Err-clause-called g c =
 pub returns-in-Ok-clause-called : goal.returns-in-Ok-clause-called
 returns-in-Ok-clause-called g c =
     let same = c.in-Ok.ensures.unchanged in
-    adds_zero c.requires.ready c.args.base c.args.n c.args.gpa c.in-Ok.ensures.near c.args.h.0 _ _ _ (rw c.page_of.ensures at c.zero_all.ensures) c.args.t
+    adds_zero c.requires.ready c.args.base c.args.n c.args.gpa c.args.h.0 _ _ _ (rw c.page_of.ensures at c.zero_all.ensures) c.args.t c.in-Ok.ensures.near
     c.in-Ok.ensures.told
     (rw (c.page_of-in-Ok.ensures, c.give_zeros.ensures.words, same.words) at c.map_pages.ensures.mapped)

@@ -12,7 +12,7 @@ pub returns-clause-left : goal.returns-clause-left
 returns-clause-left c = left
 
 pub returns-clause-rest : goal.returns-clause-rest
-returns-clause-rest c = λ old new way. lacks-rest 8 4 old new 9 way
+returns-clause-rest c = λ old new way. lacks-rest 8 4 2 old new 9 way
 
 pub returns-clause-lacks_still : goal.returns-clause-lacks_still
 returns-clause-lacks_still c = lacks_still

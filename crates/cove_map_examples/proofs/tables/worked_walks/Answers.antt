@@ -1,5 +1,7 @@
-use Rattle.std.proofs.Common.{true, false, refl, sym, true≢false}
-use Rattle.cove_map_examples.proofs.TableProofs.{not_fetched, not_present, not_there, not_while_blocked}
+use Rattle.std.proofs.Common.{true, false, refl, sym, ◌∙◌, true≢false}
+use Rattle.cove_base.proofs.TableLemmas.{below-named}
+use Rattle.cove_base.specs.Tables.{entry_in}
+use Rattle.cove_map_examples.proofs.TableProofs.{no_page, not_fetched, not_present, not_there, not_while_blocked}
 use Rattle.cove_map_examples.proofs.tables.worked_walks.Goals as goal
 
 pub returns-clause-own : goal.returns-clause-own
@@ -22,3 +24,9 @@ returns-clause-absent c = (refl, λ page shared e. absurd (not_present page shar
 
 pub returns-clause-missed : goal.returns-clause-missed
 returns-clause-missed c = λ walks. absurd (true≢false (sym (walks.1 5 true refl)))
+
+pub returns-clause-four_levels : goal.returns-clause-four_levels
+returns-clause-four_levels c = λ words named there. (false, below-named 8 words (entry_in 8 4 words 2 0) 3 9 named ∙ there, refl)
+
+pub returns-clause-one_level_less : goal.returns-clause-one_level_less
+returns-clause-one_level_less c = λ words named walks. no_page (entry_in 8 4 words 2 0) walks.0 named walks.1

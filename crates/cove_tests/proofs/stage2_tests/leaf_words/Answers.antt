@@ -1,4 +1,5 @@
 use Rattle.std.proofs.Common.{ℕ, List, ◌≡◌, ◌<◌, ◌^◌, ◌∙◌, false, ap, arith}
+use Rattle.cove_base.specs.Modes.{leaves_of}
 use Rattle.cove_base.specs.TableWords.{blocked}
 use Rattle.cove_base.specs.Tables.{leaf_at, present}
 use Rattle.cove_stage2.specs.Changes.{IsBlockedLeaf, unblocked}
@@ -18,13 +19,13 @@ block-requires-clause-present c = (11, false, omega arith, c.requires.leaf)
 
 pub unblock-requires-clause-blocked : goal.unblock-requires-clause-blocked
 unblock-requires-clause-blocked c =
-    let leaf : List ℕ → ℕ = λ ws. leaf_at c.args.tables.pages c.args.tables.root.0 ws 17 in
+    let leaf : List ℕ → ℕ = λ ws. leaf_at c.args.tables.pages c.args.tables.root.0 (leaves_of c.args.tables.mode) ws 17 in
     is-blocked (leaf c.get-blocked.new.self) (leaf c.args.words.now) 5
     (ap leaf c.get-blocked.ensures.words ∙ c.block.ensures.leaf.here) c.requires.leaf (omega arith)
 
 pub block-requires-2-clause-present : goal.block-requires-2-clause-present
 block-requires-2-clause-present c =
-    let leaf : List ℕ → ℕ = λ ws. leaf_at c.args.tables.pages c.args.tables.root.0 ws 17 in (
+    let leaf : List ℕ → ℕ = λ ws. leaf_at c.args.tables.pages c.args.tables.root.0 (leaves_of c.args.tables.mode) ws 17 in (
       11,
       false,
       omega arith,
@@ -34,7 +35,7 @@ block-requires-2-clause-present c =
 
 pub unmap-requires-clause-blocked : goal.unmap-requires-clause-blocked
 unmap-requires-clause-blocked c =
-    let leaf : List ℕ → ℕ = λ ws. leaf_at c.args.tables.pages c.args.tables.root.0 ws 17 in
+    let leaf : List ℕ → ℕ = λ ws. leaf_at c.args.tables.pages c.args.tables.root.0 (leaves_of c.args.tables.mode) ws 17 in
     let present_again : leaf c.get-unblocked.new.self ≡ present 11 false = unblocked-again (leaf c.get-unblocked.new.self) (leaf c.get-blocked.new.self) (leaf c.args.words.now) 5
     (ap leaf c.get-unblocked.ensures.words ∙ c.unblock.ensures.leaf.here) (ap leaf c.get-blocked.ensures.words ∙ c.block.ensures.leaf.here) c.requires.leaf in
     is-blocked (leaf c.block-2.new.w) (leaf c.get-unblocked.new.self) 6 c.block-2.ensures.leaf.here present_again (omega arith)
