@@ -1,5 +1,5 @@
-use cove_base::{HartId, Plain, Words};
-use cove_fence::Epochs;
+use cove_base::{HartId, Plain, TvmId, Words};
+use cove_fence::{Epochs, TvmEpochs};
 use std::test::Fail;
 
 #[test]
@@ -23,5 +23,30 @@ fn the_lowest_hart_is_behind(rt: HostRuntime) -> Result<(), Fail> {
     let epochs = Epochs::new(0, 3);
     assert!(rt; matches!(epochs.begin(&mut words, HartId(0)), Err(HartId(1))));
     assert_eq!(rt; words.as_slice(), [9, 9, 0, 0].as_slice());
+    Ok(())
+}
+
+#[test]
+fn a_tvm_fence_waits_for_the_harts_inside(rt: HostRuntime) -> Result<(), Fail> {
+    let epochs = TvmEpochs::new(0, 2);
+    // the words of both harts, which of them is late (2 for none), and whether a fence since number 3 has passed
+    for (seats, late, passed) in [
+        ([0, 0], 2, true),
+        ([0x2_0000_0003, 0x1_0000_0005], 2, true),
+        ([0x2_0000_0003, 0x1_0000_0004], 1, true),
+        ([0x1_0000_0005, 0x1_0000_0003], 1, false),
+        ([0x1_0000_0000, 0x1_0000_0003], 0, false),
+    ] {
+        let mut words = Plain::new(rt.alloc(), 70)?;
+        words.set(4, 5);
+        words.set(68, seats[0]);
+        words.set(69, seats[1]);
+        assert_eq!(rt; epochs.passed(&mut words, TvmId(1), 3), passed);
+        assert!(rt; !epochs.passed(&mut words, TvmId(1), 5));
+        match epochs.begin(&mut words, TvmId(1)) {
+            Ok(number) => assert_eq!(rt; (number, late), (6, 2)),
+            Err(hart) => assert_eq!(rt; (hart.0, words.get(4)), (late, 5)),
+        }
+    }
     Ok(())
 }
